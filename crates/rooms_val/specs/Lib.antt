@@ -1,0 +1,9 @@
+pub mod Data
+pub mod Code
+pub mod View
+pub mod Falls
+pub mod Maps
+pub mod Weight
+pub mod Json
+pub mod Answers
+pub mod Places

@@ -1,0 +1,30 @@
+-- The value that a `Val` stands for, one level at a time: a list or map inside is already seen as what it holds.
+use Rattle.std.specs.Prelude.{◌≤◌, ℕ, suc, max, ◌+◌, List, [], ◌∷◌}
+use Rattle.std.specs.Prelude as std
+use Rattle.rooms_val.specs.Data.{Data, null, boolean, whole, text, list, map, items_of, members_of, Pairs}
+use Rattle.rooms_val.specs.declared.val.Val.{Val}
+use Rattle.rooms_val.specs.declared.val.Val.TheVariants as v
+use Rattle.rooms_val.specs.declared.val.Kind.{Kind}
+use Rattle.rooms_val.specs.declared.val.Kind.TheVariants as kind
+
+abbrev pub data_of : Val → Data
+data_of v.Null = null
+data_of (v.Bool b) = boolean b
+data_of (v.Int z) = whole z
+data_of (v.Text s) = text s
+data_of (v.List ds) = list (items_of ds)
+data_of (v.Map ps) = map (members_of ps)
+
+abbrev pub items_view : List Val → List Data
+items_view vs = std.map data_of vs
+
+abbrev pub pairs_view : List (List ℕ × Val) → Pairs
+pairs_view es = std.map (λ e. (e.0, data_of e.1)) es
+
+abbrev pub kind_of : Val → Kind
+kind_of v.Null = kind.Null
+kind_of (v.Bool b) = kind.Bool
+kind_of (v.Int z) = kind.Int
+kind_of (v.Text s) = kind.Text
+kind_of (v.List ds) = kind.List
+kind_of (v.Map ps) = kind.Map

@@ -1,0 +1,123 @@
+//! A JSON value.
+ghost use Rattle.std.specs.Prelude.{◌≡◌, ◌^◌, ◌-◌, min, IfOk, option_map};
+
+use crate::fields::Fields;
+use crate::memory::Mem;
+use crate::text::Text;
+use crate::vals::Vals;
+use serde_json::{Number, Value};
+use std::alloc::Global;
+
+/// A JSON value whose numbers are whole.
+#[cycle(val)]
+#[derive(Drop)]
+pub enum Val {
+    /// `null`.
+    Null,
+    /// `true` or `false`.
+    Bool(bool),
+    /// A whole number.
+    Int(i64),
+    /// A text.
+    Text(Text),
+    /// A list.
+    List(Vals),
+    /// A map, whose keys rise by bytes.
+    Map(Fields),
+}
+
+/// Which form a value has.
+#[derive(Clone, Copy, Debug, PartialEq, Eq)]
+pub enum Kind {
+    Null,
+    Bool,
+    Int,
+    Text,
+    List,
+    Map,
+}
+
+impl Val {
+    ghost use Rattle.rooms_val.specs.Data.{IsSound};
+    ghost use Rattle.rooms_val.specs.Maps.{field};
+    ghost use Rattle.rooms_val.specs.Json.{json_of};
+    ghost use Rattle.rooms_val.specs.View.{data_of, kind_of};
+    ghost use Rattle.rooms_val.specs.Weight.{weight};
+    ghost use Rattle.serde_json.specs.View.{view};
+
+    /// Which form it has.
+    pub fn kind(&self) -> Kind
+        ensures kind { result ≡ kind_of self.now }
+        ensures sound { IsSound (data_of self.now) }
+    {
+        match self {
+            Val::Null => Kind::Null,
+            Val::Bool(_) => Kind::Bool,
+            Val::Int(_) => Kind::Int,
+            Val::Text(_) => Kind::Text,
+            Val::List(items) => {
+                let _ = items.len();
+                Kind::List
+            }
+            Val::Map(fields) => {
+                let _ = fields.len();
+                Kind::Map
+            }
+        }
+    }
+
+    /// The value under a key. `None` exactly where this is no map or lacks the key. It costs a logarithm of the map's
+    /// size.
+    pub fn get(&self, key: &str) -> Option<&Val>
+        ensures { option_map (λ v. data_of v.now) result ≡ field (data_of self.now) key.now }
+    {
+        match self {
+            Val::Map(fields) => fields.get(key),
+            _ => None,
+        }
+    }
+
+    /// An equal value.
+    #[cycle(copy)]
+    pub fn copy(&self, alloc: Global) -> Mem<Val>
+        ensures { IfOk result (λ v. data_of v ≡ data_of self.now) }
+    {
+        Ok(match self {
+            Val::Null => Val::Null,
+            Val::Bool(truth) => Val::Bool(*truth),
+            Val::Int(number) => Val::Int(*number),
+            Val::Text(text) => Val::Text(text.copy(alloc)?),
+            Val::List(items) => Val::List(items.copy(alloc)?),
+            Val::Map(fields) => Val::Map(fields.copy(alloc)?),
+        })
+    }
+
+    /// What it weighs: 1 for each value in it, and beside that the bytes of each text and key; 2^64 - 1 where that is
+    /// more.
+    #[cycle(weight)]
+    pub fn weight(&self) -> u64
+        ensures { result ≡ min (weight (data_of self.now)) (2 ^ 64 - 1) }
+    {
+        match self {
+            Val::Null | Val::Bool(_) | Val::Int(_) => 1,
+            Val::Text(text) => (text.as_str().len() as u64).saturating_add(1),
+            Val::List(items) => items.weight().saturating_add(1),
+            Val::Map(fields) => fields.weight().saturating_add(1),
+        }
+    }
+
+    /// The JSON of the value.
+    #[cycle(to_json)]
+    pub(crate) fn to_json(&self, alloc: Global) -> Mem<Value>
+        ensures { IfOk result (λ json. view json ≡ json_of (data_of self.now)) }
+    {
+        Ok(match self {
+            Val::Null => Value::Null,
+            Val::Bool(truth) => Value::Bool(*truth),
+            Val::Int(number) => Value::Number(Number::from(*number)),
+            Val::Text(text) => Value::String(String::from_str(alloc, text.as_str())?),
+            Val::List(items) => Value::Array(items.to_json(alloc)?),
+            Val::Map(fields) => Value::Object(fields.to_json(alloc)?),
+        })
+    }
+}
