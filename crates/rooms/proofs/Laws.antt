@@ -1,0 +1,100 @@
+-- Lists of values as items, and edits in order.
+use Rattle.std.proofs.Common.{◌≡◌, ℕ, zero, suc, ◌<◌, ◌≤◌, ◌==◌, ◌+◌, Bool, true, false, not, cond, List, [], ◌∷◌, ◌++◌, length, take, drop, get_or, set, slice_get, Some, None, nat_lt, Vec, Global, refl, sym, ap, subst, ◌∙◌, arith}
+use Rattle.std.specs.List.{position, position_or_len}
+use Rattle.std.proofs.lemmas.Bool.Decides.{nat_tests}
+use Rattle.std.proofs.lemmas.Option.{slice_get-get_or}
+use Rattle.rooms_val.specs.Data.{Data, Pairs, items_of, list_of}
+use Rattle.rooms.specs.Lines.{cut, with_front, lines_of, last_line, newline}
+use Rattle.rooms.specs.Clients.{are_admitted, put_all, replayed}
+use Rattle.rooms.specs.Replay.{World, edited, passed}
+use Rattle.rooms.specs.Replies.{Answers}
+use Rattle.rooms.specs.declared.world.Reply.TheVariants.{Wrote}
+
+pub list_of-items_of : (ds : List Data) → list_of (items_of ds) ≡ ds
+list_of-items_of [] = refl
+list_of-items_of (d ∷ ds) = ap (λ rest. d ∷ rest) (list_of-items_of ds)
+
+-- a further edit is replayed last
+pub replayed-push : (document : Pairs) (edits : List Pairs) (puts : Pairs) → replayed document (edits ++ puts ∷ []) ≡ put_all (replayed document edits) puts
+replayed-push document [] puts = refl
+replayed-push document (first ∷ edits) puts = replayed-push (put_all document first) edits puts
+
+-- how many bytes stand before the first newline
+abbrev front : List ℕ → ℕ
+front [] = 0
+front (c ∷ cs) = cond (c == newline) 0 (suc (front cs))
+
+position_or_len-front : (bytes : List ℕ) → position_or_len (λ c. c == newline) bytes ≡ front bytes
+position_or_len-front [] = refl
+position_or_len-front (c ∷ cs) = elim (c == newline) as (λ b. cond (not b) (1 + position_or_len (λ d. d == newline) cs) 0 ≡ cond b 0 (suc (front cs))) [
+  | true ↦ refl
+  | false ↦ rw (position_or_len-front cs) (omega arith)
+]
+
+cut_first : (bytes : List ℕ) → front bytes < length bytes → cut bytes ≡ (take (front bytes) bytes ∷ (cut (drop (suc (front bytes)) bytes)).0, (cut (drop (suc (front bytes)) bytes)).1)
+cut_first [] within = absurd (omega arith)
+cut_first (c ∷ cs) within = elim (c == newline) as (λ b. cond b 0 (suc (front cs)) < suc (length cs)
+    → cond b ([] ∷ (cut cs).0, (cut cs).1) (with_front c (cut cs).0 (cut cs).1)
+    ≡ (take (cond b 0 (suc (front cs))) (c ∷ cs) ∷ (cut (drop (suc (cond b 0 (suc (front cs)))) (c ∷ cs))).0, (cut (drop (suc (cond b 0 (suc (front cs)))) (c ∷ cs))).1)) [
+      | true ↦ λ h. refl
+      | false ↦ λ h. ap (λ p. with_front c p.0 p.1) (cut_first cs (omega arith))
+    ] within
+
+cut_none : (bytes : List ℕ) → length bytes ≤ front bytes → cut bytes ≡ ([], bytes)
+cut_none [] none = refl
+cut_none (c ∷ cs) none = elim (c == newline) as (λ b. suc (length cs) ≤ cond b 0 (suc (front cs))
+    → cond b ([] ∷ (cut cs).0, (cut cs).1) (with_front c (cut cs).0 (cut cs).1) ≡ ([], c ∷ cs)) [
+      | true ↦ λ h. absurd (omega arith)
+      | false ↦ λ h. ap (λ p. with_front c p.0 p.1) (cut_none cs (omega arith))
+    ] none
+
+within_first : (n m k : ℕ) → cond (nat_lt n m) (Some n) None ≡ Some k → (n < m) × (n ≡ k)
+within_first n m k e = elim (nat_lt n m) as (λ b. nat_lt n m ≡ b → cond b (Some n) None ≡ Some k → (n < m) × (n ≡ k)) [
+  | true ↦ λ t h. (grind (arith, nat_tests, t), cc)
+  | false ↦ λ t h. absurd (cc)
+] refl e
+
+past_all : (n m : ℕ) → cond (nat_lt n m) (Some n) None ≡ None → m ≤ n
+past_all n m e = elim (nat_lt n m) as (λ b. nat_lt n m ≡ b → cond b (Some n) None ≡ None → m ≤ n) [
+  | true ↦ λ t h. absurd (cc)
+  | false ↦ λ t h. grind (arith, nat_tests, t)
+] refl e
+
+-- a first line
+pub lines_first : (whole : Bool) (bytes : List ℕ) (n : ℕ) → position (λ c. c == newline) bytes ≡ Some n → lines_of whole bytes ≡ take n bytes ∷ lines_of whole (drop (suc n) bytes)
+lines_first whole bytes n at =
+    let here = within_first (front bytes) (length bytes) n (rw (position_or_len-front bytes) at at) in
+    ap (λ p. p.0 ++ last_line whole p.1) (cut_first bytes here.0) ∙ ap (λ k. take k bytes ∷ lines_of whole (drop (suc k) bytes)) here.1
+
+-- no whole line
+pub lines_last : (whole : Bool) (bytes : List ℕ) → position (λ c. c == newline) bytes ≡ None → lines_of whole bytes ≡ last_line whole bytes
+lines_last whole bytes none = ap (λ p. p.0 ++ last_line whole p.1) (cut_none bytes (past_all (front bytes) (length bytes) (rw (position_or_len-front bytes) at none)))
+
+pub last_line-whole : (bytes : List ℕ) → 0 < length bytes → last_line true bytes ≡ bytes ∷ []
+last_line-whole [] some = absurd (omega arith)
+last_line-whole (c ∷ cs) some = refl
+
+pub last_line-cut : (bytes : List ℕ) → last_line false bytes ≡ []
+last_line-cut [] = refl
+last_line-cut (c ∷ cs) = refl
+
+pub last_line-empty : (whole : Bool) (bytes : List ℕ) → length bytes ≡ 0 → last_line whole bytes ≡ []
+last_line-empty whole [] none = refl
+last_line-empty whole (c ∷ cs) none = absurd (omega arith)
+
+-- an edit of a client that is there
+pub edited_there : (world : World) (client : ℕ) (puts : Pairs) (old new : List Pairs) → client < length world → old ≡ get_or world client old → are_admitted puts ≡ true → new ≡ old ++ puts ∷ []
+    → edited world client puts (slice_get world client) ≡ passed [] (Some (set world client new))
+edited_there world client puts old new within is admitted pushed =
+    ap (edited world client puts) (slice_get-get_or world client old within ∙ ap Some (sym is)) ∙ rw (admitted, pushed)
+
+set_again : (world : World) (client : ℕ) (a b : List Pairs) → set (set world client a) client b ≡ set world client b
+set_again [] client a b = refl
+set_again (c ∷ cs) zero a b = refl
+set_again (c ∷ cs) (suc n) a b = ap (λ rest. c ∷ rest) (set_again cs n a b)
+
+-- the reply to such an edit, where the client was taken out for it
+pub answers_edit : (world : World) (client : ℕ) (puts : Pairs) (old new out : List Pairs) (v : Vec ℕ Global) → client < length world → old ≡ get_or world client old → are_admitted puts ≡ true → new ≡ old ++ puts ∷ []
+    → v.items ≡ [] → Answers (edited world client puts (slice_get world client)) (Wrote v) (Some (set (set world client out) client new))
+answers_edit world client puts old new out v within is admitted pushed none =
+    subst (λ t. Answers t (Wrote v) (Some (set (set world client out) client new))) (sym (edited_there world client puts old new within is admitted pushed)) (none, ap Some (set_again world client out new))

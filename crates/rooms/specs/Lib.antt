@@ -1,0 +1,9 @@
+pub mod Lines
+pub mod Forms
+pub mod Events
+pub mod Clients
+pub mod Texts
+pub mod Replay
+pub mod Jobs
+pub mod Replies
+pub mod Runs

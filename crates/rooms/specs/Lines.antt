@@ -1,0 +1,48 @@
+-- How a recording is cut into lines.
+use Rattle.std.specs.Prelude.{ℕ, ◌==◌, ◌||◌, nat_lt, List, [], ◌∷◌, ◌++◌, length, take, Bool, if◌then◌else◌}
+use Rattle.std.specs.List.{list_all}
+
+abbrev pub newline : ℕ
+newline = 10
+
+-- how many bytes of a recording are looked at: 2^30
+abbrev pub most_bytes : ℕ
+most_bytes = 1073741824
+
+-- how many bytes a line may have without its newline
+abbrev pub longest_line : ℕ
+longest_line = 1048576
+
+-- what a further byte in front makes of the lines and of what follows the last of them
+abbrev pub with_front : ℕ → List (List ℕ) → List ℕ → List (List ℕ) × List ℕ
+with_front c [] rest = ([], c ∷ rest)
+with_front c (line ∷ lines) rest = ((c ∷ line) ∷ lines, rest)
+
+-- the lines that end in a newline, and what follows the last of them
+abbrev pub cut : List ℕ → List (List ℕ) × List ℕ
+cut [] = ([], [])
+cut (c ∷ cs) = if c == newline then ([] ∷ (cut cs).0, (cut cs).1) else with_front c (cut cs).0 (cut cs).1
+
+-- a last piece, where it is whole and has a byte
+abbrev pub last_line : Bool → List ℕ → List (List ℕ)
+last_line whole [] = []
+last_line whole (c ∷ cs) = if whole then (c ∷ cs) ∷ [] else []
+
+-- the lines of some bytes, which are the whole recording or its front
+abbrev pub lines_of : Bool → List ℕ → List (List ℕ)
+lines_of whole bytes = (cut bytes).0 ++ last_line whole (cut bytes).1
+
+-- whether the recording is shorter than what is looked at
+abbrev pub is_whole : List ℕ → Bool
+is_whole recording = nat_lt (length recording) most_bytes
+
+-- the lines of a recording
+abbrev pub recorded_lines : List ℕ → List (List ℕ)
+recorded_lines recording = lines_of (is_whole recording) (take most_bytes recording)
+
+-- a space, a tab or a return
+abbrev pub is_blank_byte : ℕ → Bool
+is_blank_byte c = (c == 32) || (c == 9) || (c == 13)
+
+abbrev pub is_blank : List ℕ → Bool
+is_blank line = list_all is_blank_byte line

@@ -1,0 +1,33 @@
+-- The lines that a replay writes.
+use Rattle.std.specs.Prelude.{ℕ, pos, negsuc, List, [], ◌∷◌, ◌++◌, true, length, codes}
+use Rattle.rooms_val.specs.Data.{Pairs, boolean, whole, text, map, members_of, no_members}
+use Rattle.rooms_val.specs.Json.{text_of}
+use Rattle.rooms.specs.Lines.{newline}
+use Rattle.rooms.specs.Clients.{replayed}
+use Rattle.rooms.specs.declared.fault.Fault.{Fault}
+use Rattle.rooms.specs.declared.fault.Fault.TheVariants.{Line, Step, Unended, TooMuch}
+
+-- the compact text of a map, and a newline
+abbrev pub line_of : Pairs → List ℕ
+line_of ps = text_of (map (members_of ps)) ++ newline ∷ []
+
+abbrev pub fault_name : Fault → List ℕ
+fault_name Line = codes "Line"
+fault_name Step = codes "Step"
+fault_name Unended = codes "Unended"
+fault_name TooMuch = codes "TooMuch"
+
+-- where a recording is refused, by the number of the line, and why
+unfoldable pub fault_line : ℕ → Fault → List ℕ
+fault_line at fault = line_of ((codes "at", whole (pos at)) ∷ (codes "fault", text (fault_name fault)) ∷ [])
+
+-- what a client shows that was never connected: the clock -1, its edits replayed, nobody else, and how many edits it owes
+unfoldable pub show_line : ℕ → List Pairs → List ℕ
+show_line client edits = line_of (
+    (codes "clock", whole (negsuc 0)) ∷ (codes "doc", map (members_of (replayed [] edits))) ∷ (codes "others", map no_members)
+    ∷ (codes "owed", whole (pos (length edits))) ∷ (codes "show", whole (pos client)) ∷ []
+    )
+
+-- what the room holds at the end, to which nobody connected
+unfoldable pub end_line : List ℕ
+end_line = line_of ((codes "clock", whole (pos 0)) ∷ (codes "doc", map no_members) ∷ (codes "end", boolean true) ∷ (codes "presence", map no_members) ∷ [])

@@ -1,0 +1,74 @@
+//! What stands in the fields of a line's value.
+ghost use Rattle.std.specs.Prelude.{◌≡◌, ◌==◌, option_map};
+ghost use Rattle.rooms_val.specs.View.{data_of};
+ghost use Rattle.rooms.specs.Forms.{is_text, items_in, pairs_in, text_at, number_at, pairs_at};
+ghost use Rattle.rooms.specs.Events.{has_number};
+
+use rooms_val::{Fields, Val, Vals};
+
+/// The fields of a value that is a map.
+pub(crate) fn fields_in(val: &Val) -> Option<&Fields>
+    ensures { option_map (λ fields. fields.now) result ≡ pairs_in (data_of val.now) }
+{
+    match val {
+        Val::Map(fields) => Some(fields),
+        _ => None,
+    }
+}
+
+/// The values of a value that is a list.
+pub(crate) fn items_in(val: &Val) -> Option<&Vals>
+    ensures { option_map (λ items. items.now) result ≡ items_in (data_of val.now) }
+{
+    match val {
+        Val::List(items) => Some(items),
+        _ => None,
+    }
+}
+
+/// Whether the value is this text.
+pub(crate) fn is_text(val: &Val, text: &str) -> bool
+    ensures { result ≡ is_text text.now (data_of val.now) }
+{
+    match val {
+        Val::Text(found) => found.as_str() == text,
+        _ => false,
+    }
+}
+
+/// The text under a key.
+pub(crate) fn text_at<'a>(fields: &'a Fields, key: &str) -> Option<&'a str>
+    ensures { option_map (λ text. text.now) result ≡ text_at fields.now key.now }
+{
+    match fields.get(key)? {
+        Val::Text(text) => Some(text.as_str()),
+        _ => None,
+    }
+}
+
+/// The whole number from 0 under a key.
+pub(crate) fn number_at(fields: &Fields, key: &str) -> Option<u64>
+    ensures { result ≡ number_at fields.now key.now }
+{
+    match fields.get(key)? {
+        Val::Int(number) => u64::try_from(*number).ok(),
+        _ => None,
+    }
+}
+
+/// The map under a key.
+pub(crate) fn fields_at<'a>(fields: &'a Fields, key: &str) -> Option<&'a Fields>
+    ensures { option_map (λ inner. inner.now) result ≡ pairs_at fields.now key.now }
+{
+    fields_in(fields.get(key)?)
+}
+
+/// Whether the number under a key is this one.
+pub(crate) fn has_number(fields: &Fields, key: &str, number: u64) -> bool
+    ensures { result ≡ has_number fields.now key.now number }
+{
+    match number_at(fields, key) {
+        Some(found) => found == number,
+        None => false,
+    }
+}

@@ -1,0 +1,38 @@
+//! The lines of a recording.
+ghost use Rattle.std.specs.Prelude.{◌≡◌, [], ◌∷◌, ◌<◌, ◌==◌, length, position, MatchOption, IfSome};
+ghost use Rattle.rooms.specs.Lines.{newline, lines_of, is_blank};
+
+/// How many bytes a line may have without its newline.
+pub(crate) const LONGEST_LINE: usize = 1 << 20;
+
+/// The first line and what follows it, or none where no line is left. A last piece without a newline is a line where
+/// these are all the bytes that there are.
+pub(crate) fn next_line(bytes: &[u8], whole: bool) -> Option<(&[u8], &[u8])>
+    ensures lines { MatchOption result (lines_of whole bytes.now ≡ [])
+        (λ found. lines_of whole bytes.now ≡ found.0.now ∷ lines_of whole found.1.now) }
+    ensures shorter { IfSome result (λ found. length found.1.now < length bytes.now) }
+{
+    match newline_at(bytes) {
+        Some(end) => Some((&bytes[..end], &bytes[end + 1..])),
+        None => if whole && !bytes.is_empty() {
+            Some((bytes, &[]))
+        } else {
+            None
+        },
+    }
+}
+
+/// Where the first newline stands.
+fn newline_at(bytes: &[u8]) -> Option<usize>
+    ensures { result ≡ position (λ c. c == newline) bytes.now }
+{
+    bytes.iter().position(|byte| *byte == b'\n')
+}
+
+/// Whether the line has spaces, tabs and returns alone.
+pub(crate) fn is_blank(line: &[u8]) -> bool
+    ensures { result ≡ is_blank line.now }
+{
+    line.iter()
+        .all(|byte| *byte == b' ' || *byte == b'\t' || *byte == b'\r')
+}

@@ -1,0 +1,317 @@
+//! What recordings write, and how runs end, over sources and sinks in memory.
+ghost use Rattle.std.specs.Prelude.{◌≡◌, ◌<◌};
+
+use crate::run::run;
+use room_link::memory_sink::{MemorySink, SteadySink};
+use room_link::memory_source::{MemorySource, SteadySource};
+use room_link::script::Script;
+use room_link::sink::Sink;
+use room_link::source::Source;
+use rooms_val::{OutOfMemory, Steps};
+use std::alloc::Global;
+use std::marker::Brand;
+use std::process::Abort;
+use std::sync::ledger::{Blank, Ledger};
+use std::test::Fail;
+
+const HEADER: &str = r#"{"recording":1,"version":3}"#;
+
+const CLIENT: &str = r#"{"do":"client","version":3}"#;
+
+const SHOW: &str = r#"{"client":0,"do":"show"}"#;
+
+const END: &str = r#"{"do":"end"}"#;
+
+const SHOWN_EMPTY: &str = r#"{"clock":-1,"doc":{},"others":{},"owed":0,"show":0}"#;
+
+const ENDED: &str = r#"{"clock":0,"doc":{},"end":true,"presence":{}}"#;
+
+fn run_counted<S: Source, K: Sink, L: Ledger>(
+    alloc: Global,
+    words: &[String],
+    source: &mut S,
+    sink: &mut K,
+    blank: Blank,
+) -> u8
+    requires name { blank.name ≡ L.name }
+    requires parts { blank.parts ≡ L.parts }
+    requires some { 0 < blank.parts }
+{
+    run(alloc, words, source, sink, &mut Steps::<L>::new(blank))
+}
+
+/// Runs over a source and a sink, with the words that are parted by spaces.
+fn run_words<S: Source, K: Sink>(
+    alloc: Global,
+    words: &str,
+    source: &mut S,
+    sink: &mut K,
+) -> Result<u8, OutOfMemory> {
+    let mut all = Vec::new(alloc);
+    for word in words.split_whitespace() {
+        all.push(String::from_str(alloc, word)?)?;
+    }
+    Ok(run_counted::<S, K, Brand>(alloc, &all, source, sink, Blank::new(1)))
+}
+
+/// Replays a recording that comes and goes so many bytes at a time, and asserts what it writes and the status.
+fn replays(
+    rt: &impl Abort,
+    alloc: Global,
+    recording: &[u8],
+    most: usize,
+    written: &str,
+    status: u8,
+) -> Result<(), Fail>
+    requires { 0 < most }
+{
+    let mut source = SteadySource::new(recording.to_vec(alloc)?, most);
+    let mut sink = SteadySink::new(alloc, most);
+    let got = run_words(alloc, "replay", &mut source, &mut sink)?;
+    assert!(rt; sink.is_whole());
+    assert_eq!(rt; sink.bytes(), written.as_bytes());
+    assert_eq!(rt; got, status);
+    Ok(())
+}
+
+/// The lines, each with a newline.
+fn lines(alloc: Global, all: &[&str]) -> Result<String, Fail> {
+    let mut text = String::new(alloc);
+    for line in all {
+        text.push_str(line)?;
+        text.push('\n')?;
+    }
+    Ok(text)
+}
+
+#[test]
+fn replays_recordings(rt: HostRuntime) -> Result<(), Fail> {
+    let alloc = rt.alloc();
+    let put = r#"{"client":0,"diff":{"page:p":["put",{"name":"P","id":"page:p"}]},"do":"edit"}"#;
+    let put_again =
+        r#"{"do":"edit","diff":{"page:p":["put",{"id":"page:p"}],"a":["put",{"id":"a"}]},"client":0}"#;
+    let shown =
+        r#"{"clock":-1,"doc":{"page:p":{"id":"page:p","name":"P"}},"others":{},"owed":1,"show":0}"#;
+    let shown_again =
+        r#"{"clock":-1,"doc":{"a":{"id":"a"},"page:p":{"id":"page:p"}},"others":{},"owed":2,"show":0}"#;
+    let cases: [(&[&str], &[&str], u8); 12] = [
+        (&[HEADER, CLIENT, SHOW, END], &[SHOWN_EMPTY, ENDED], 0),
+        (
+            &[HEADER, CLIENT, put, SHOW, put_again, SHOW, END],
+            &[shown, shown_again, ENDED],
+            0,
+        ),
+        (
+            &["", " \t\r", HEADER, "", CLIENT, SHOW, END, "not looked at"],
+            &[SHOWN_EMPTY, ENDED],
+            0,
+        ),
+        (
+            &[HEADER, CLIENT, r#"{"do":"fly"}"#],
+            &[r#"{"at":3,"fault":"Line"}"#],
+            3,
+        ),
+        (&[HEADER], &[r#"{"at":2,"fault":"Unended"}"#], 3),
+        (&[], &[r#"{"at":1,"fault":"Unended"}"#], 3),
+        (&["{}"], &[r#"{"at":1,"fault":"Line"}"#], 3),
+        (&[HEADER, HEADER], &[r#"{"at":2,"fault":"Line"}"#], 3),
+        (
+            &[HEADER, CLIENT, CLIENT],
+            &[r#"{"at":3,"fault":"Step"}"#],
+            3,
+        ),
+        (&[HEADER, "", SHOW], &[r#"{"at":3,"fault":"Step"}"#], 3),
+        (
+            &[
+                HEADER,
+                CLIENT,
+                SHOW,
+                r#"{"client":0,"diff":{"a":["put",{"id":"b"}]},"do":"edit"}"#,
+            ],
+            &[SHOWN_EMPTY, r#"{"at":4,"fault":"Step"}"#],
+            3,
+        ),
+        (
+            &[HEADER, CLIENT, r#"{"client":1,"diff":{},"do":"edit"}"#],
+            &[r#"{"at":3,"fault":"Step"}"#],
+            3,
+        ),
+    ];
+    for (recording, written, status) in cases.iter() {
+        let recording = lines(alloc, recording)?;
+        let written = lines(alloc, written)?;
+        for most in [1, 7, 4096] {
+            replays(
+                &rt,
+                alloc,
+                recording.as_bytes(),
+                most,
+                written.as_str(),
+                *status,
+            )?;
+        }
+    }
+    Ok(())
+}
+
+#[test]
+fn takes_a_last_line_without_a_newline(rt: HostRuntime) -> Result<(), Fail> {
+    let alloc = rt.alloc();
+    let mut recording = lines(alloc, &[HEADER, CLIENT])?;
+    recording.push_str(END)?;
+    let written = lines(alloc, &[ENDED])?;
+    replays(&rt, alloc, recording.as_bytes(), 4096, written.as_str(), 0)
+}
+
+#[test]
+fn refuses_what_is_no_event(rt: HostRuntime) -> Result<(), Fail> {
+    let alloc = rt.alloc();
+    let written = lines(alloc, &[SHOWN_EMPTY, r#"{"at":4,"fault":"Line"}"#])?;
+    let bad: [&str; 15] = [
+        "{\"do\":\"sh",
+        r#"{"client":1.0,"do":"show"}"#,
+        r#"{"client":1e3,"do":"show"}"#,
+        r#"{"client":-0,"do":"show"}"#,
+        r#"{"client":-1,"do":"show"}"#,
+        r#"{"client":9007199254740992,"do":"show"}"#,
+        r#"{"client":18446744073709551616,"do":"show"}"#,
+        r#"{"client":"0","do":"show"}"#,
+        r#"{"client":0,"do":"show","x":1}"#,
+        r#"{"do":"\ud800"}"#,
+        r#"{"client":0,"diff":{"a":["put"]},"do":"edit"}"#,
+        r#"{"client":0,"diff":{"a":["put",{"id":"a"},1]},"do":"edit"}"#,
+        r#"{"client":0,"diff":{"a":["patch",{}]},"do":"edit"}"#,
+        r#"{"client":0,"diff":[],"do":"edit"}"#,
+        r#"{"do":"client","version":2}"#,
+    ];
+    for line in bad.iter() {
+        let recording = lines(alloc, &[HEADER, CLIENT, SHOW, line])?;
+        replays(&rt, alloc, recording.as_bytes(), 4096, written.as_str(), 3)?;
+    }
+    let before = lines(alloc, &[HEADER, CLIENT, SHOW])?;
+    for levels in [65usize, 128, 5000] {
+        let mut recording = before.as_bytes().to_vec(alloc)?;
+        for _ in 0..levels {
+            recording.push(b'[')?;
+        }
+        for _ in 0..levels {
+            recording.push(b']')?;
+        }
+        replays(&rt, alloc, &recording, 4096, written.as_str(), 3)?;
+    }
+    let mut recording = before.as_bytes().to_vec(alloc)?;
+    recording.extend_from_slice(b"{\"do\":\"\xff\"}\n")?;
+    replays(&rt, alloc, &recording, 4096, written.as_str(), 3)?;
+    let mut recording = before.as_bytes().to_vec(alloc)?;
+    recording.extend_from_slice(b"{\"client\":1")?;
+    for _ in 0..400 {
+        recording.push(b'0')?;
+    }
+    recording.extend_from_slice(b",\"do\":\"show\"}")?;
+    replays(&rt, alloc, &recording, 4096, written.as_str(), 3)
+}
+
+#[test]
+fn refuses_a_line_that_is_too_long(rt: HostRuntime) -> Result<(), Fail> {
+    let alloc = rt.alloc();
+    for (blanks, written, status) in [
+        (1usize << 20, ENDED, 0u8),
+        ((1 << 20) + 1, r#"{"at":2,"fault":"Line"}"#, 3),
+    ] {
+        let mut recording = lines(alloc, &[HEADER])?;
+        for _ in 0..blanks {
+            recording.push(' ')?;
+        }
+        recording.push('\n')?;
+        recording.push_str(END)?;
+        let written = lines(alloc, &[written])?;
+        replays(
+            &rt,
+            alloc,
+            recording.as_bytes(),
+            65_536,
+            written.as_str(),
+            status,
+        )?;
+    }
+    Ok(())
+}
+
+#[test]
+fn shows_a_large_document(rt: HostRuntime) -> Result<(), Fail> {
+    let alloc = rt.alloc();
+    let mut edit = String::from_str(alloc, "{\"client\":0,\"diff\":{")?;
+    let mut shown = String::from_str(alloc, "{\"clock\":-1,\"doc\":{")?;
+    for number in 10_000..26_384u32 {
+        if number > 10_000 {
+            edit.push(',')?;
+            shown.push(',')?;
+        }
+        edit.push_str(format!(in alloc;
+            "\"page:{number}\":[\"put\",{{\"id\":\"page:{number}\"}}]"
+        )?.as_str())?;
+        shown.push_str(format!(in alloc;
+            "\"page:{number}\":{{\"id\":\"page:{number}\"}}"
+        )?.as_str())?;
+    }
+    edit.push_str("},\"do\":\"edit\"}")?;
+    shown.push_str("},\"others\":{},\"owed\":1,\"show\":0}")?;
+    let recording = lines(alloc, &[HEADER, CLIENT, edit.as_str(), SHOW, END])?;
+    let written = lines(alloc, &[shown.as_str(), ENDED])?;
+    replays(
+        &rt,
+        alloc,
+        recording.as_bytes(),
+        65_536,
+        written.as_str(),
+        0,
+    )
+}
+
+#[test]
+fn ends_where_a_write_fails(rt: HostRuntime) -> Result<(), Fail> {
+    let alloc = rt.alloc();
+    let recording = lines(alloc, &[HEADER, CLIENT, SHOW, END])?;
+    let mut source = SteadySource::new(recording.as_bytes().to_vec(alloc)?, 4096);
+    let mut sink = MemorySink {
+        sink: SteadySink::new(alloc, 4096),
+        script: Script::new([1u64].to_vec(alloc)?),
+    };
+    assert_eq!(rt; run_words(alloc, "replay", &mut source, &mut sink)?, 5);
+    let written = lines(alloc, &[SHOWN_EMPTY])?;
+    assert_eq!(rt; sink.sink.bytes(), written.as_bytes());
+    Ok(())
+}
+
+#[test]
+fn ends_where_a_read_fails(rt: HostRuntime) -> Result<(), Fail> {
+    let alloc = rt.alloc();
+    let recording = lines(alloc, &[HEADER, END])?;
+    let mut source = MemorySource {
+        source: SteadySource::new(recording.as_bytes().to_vec(alloc)?, 4096),
+        script: Script::new([0u64].to_vec(alloc)?),
+    };
+    let mut sink = SteadySink::new(alloc, 4096);
+    assert_eq!(rt; run_words(alloc, "replay", &mut source, &mut sink)?, 4);
+    assert_eq!(rt; sink.bytes(), b"".as_slice());
+    Ok(())
+}
+
+#[test]
+fn takes_no_other_words(rt: HostRuntime) -> Result<(), Fail> {
+    let alloc = rt.alloc();
+    for words in [
+        "",
+        "replay x",
+        "fly",
+        "replay --trace",
+        "make 7 2000",
+        "--help",
+    ] {
+        let mut source = SteadySource::new(b"{}".to_vec(alloc)?, 4096);
+        let mut sink = SteadySink::new(alloc, 4096);
+        assert_eq!(rt; run_words(alloc, words, &mut source, &mut sink)?, 2);
+        assert_eq!(rt; sink.bytes(), b"".as_slice());
+    }
+    Ok(())
+}
