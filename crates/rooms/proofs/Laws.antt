@@ -3,21 +3,12 @@ use Rattle.std.proofs.Common.{◌≡◌, ℕ, zero, suc, ◌<◌, ◌≤◌, ◌
 use Rattle.std.specs.List.{position, position_or_len}
 use Rattle.std.proofs.lemmas.Bool.Decides.{nat_tests}
 use Rattle.std.proofs.lemmas.Option.{slice_get-get_or}
-use Rattle.rooms_val.specs.Data.{Data, Pairs, items_of, list_of}
 use Rattle.rooms.specs.Lines.{cut, with_front, lines_of, last_line, newline}
-use Rattle.rooms.specs.Clients.{are_admitted, put_all, replayed}
+use Rattle.field_ops.specs.Changes.{Changes}
+use Rattle.rooms.specs.Clients.{may_edit}
 use Rattle.rooms.specs.Replay.{World, edited, passed}
 use Rattle.rooms.specs.Replies.{Answers}
 use Rattle.rooms.specs.declared.world.Reply.TheVariants.{Wrote}
-
-pub list_of-items_of : (ds : List Data) → list_of (items_of ds) ≡ ds
-list_of-items_of [] = refl
-list_of-items_of (d ∷ ds) = ap (λ rest. d ∷ rest) (list_of-items_of ds)
-
--- a further edit is replayed last
-pub replayed-push : (document : Pairs) (edits : List Pairs) (puts : Pairs) → replayed document (edits ++ puts ∷ []) ≡ put_all (replayed document edits) puts
-replayed-push document [] puts = refl
-replayed-push document (first ∷ edits) puts = replayed-push (put_all document first) edits puts
 
 -- how many bytes stand before the first newline
 abbrev front : List ℕ → ℕ
@@ -83,18 +74,18 @@ last_line-empty whole [] none = refl
 last_line-empty whole (c ∷ cs) none = absurd (omega arith)
 
 -- an edit of a client that is there
-pub edited_there : (world : World) (client : ℕ) (puts : Pairs) (old new : List Pairs) → client < length world → old ≡ get_or world client old → are_admitted puts ≡ true → new ≡ old ++ puts ∷ []
-    → edited world client puts (slice_get world client) ≡ passed [] (Some (set world client new))
-edited_there world client puts old new within is admitted pushed =
-    ap (edited world client puts) (slice_get-get_or world client old within ∙ ap Some (sym is)) ∙ rw (admitted, pushed)
+pub edited_there : (world : World) (client : ℕ) (diff : Changes) (old new : List Changes) → client < length world → old ≡ get_or world client old → may_edit old diff ≡ true → new ≡ old ++ diff ∷ []
+    → edited world client diff (slice_get world client) ≡ passed [] (Some (set world client new))
+edited_there world client diff old new within is admitted pushed =
+    ap (edited world client diff) (slice_get-get_or world client old within ∙ ap Some (sym is)) ∙ rw (admitted, pushed)
 
-set_again : (world : World) (client : ℕ) (a b : List Pairs) → set (set world client a) client b ≡ set world client b
+set_again : (world : World) (client : ℕ) (a b : List Changes) → set (set world client a) client b ≡ set world client b
 set_again [] client a b = refl
 set_again (c ∷ cs) zero a b = refl
 set_again (c ∷ cs) (suc n) a b = ap (λ rest. c ∷ rest) (set_again cs n a b)
 
 -- the reply to such an edit, where the client was taken out for it
-pub answers_edit : (world : World) (client : ℕ) (puts : Pairs) (old new out : List Pairs) (v : Vec ℕ Global) → client < length world → old ≡ get_or world client old → are_admitted puts ≡ true → new ≡ old ++ puts ∷ []
-    → v.items ≡ [] → Answers (edited world client puts (slice_get world client)) (Wrote v) (Some (set (set world client out) client new))
-answers_edit world client puts old new out v within is admitted pushed none =
-    subst (λ t. Answers t (Wrote v) (Some (set (set world client out) client new))) (sym (edited_there world client puts old new within is admitted pushed)) (none, ap Some (set_again world client out new))
+pub answers_edit : (world : World) (client : ℕ) (diff : Changes) (old new out : List Changes) (v : Vec ℕ Global) → client < length world → old ≡ get_or world client old → may_edit old diff ≡ true → new ≡ old ++ diff ∷ []
+    → v.items ≡ [] → Answers (edited world client diff (slice_get world client)) (Wrote v) (Some (set (set world client out) client new))
+answers_edit world client diff old new out v within is admitted pushed none =
+    subst (λ t. Answers t (Wrote v) (Some (set (set world client out) client new))) (sym (edited_there world client diff old new within is admitted pushed)) (none, ap Some (set_again world client out new))

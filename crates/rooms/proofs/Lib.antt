@@ -1,3 +1,4 @@
 pub mod Laws
+pub mod Diffs
 pub mod SoFar
 pub mod Recorded

@@ -1,27 +1,12 @@
 -- The events of a recording, and the values that stand for them.
-use Rattle.std.specs.Prelude.{ℕ, List, [], ◌∷◌, length, Bool, false, ◌&&◌, ◌==◌, if◌then◌else◌, codes, Option, Some, None, option_map, option_and_then}
+use Rattle.std.specs.Prelude.{ℕ, List, length, Bool, false, ◌&&◌, ◌==◌, if◌then◌else◌, codes, Option, Some, None, option_map, option_and_then}
 use Rattle.std.specs.Option.{option_map_or}
 use Rattle.std.specs.Str.{bytes_eq}
 use Rattle.rooms_val.specs.Data.{Data, Pairs}
-use Rattle.rooms_val.specs.Maps.{put}
-use Rattle.rooms.specs.Forms.{is_text, items_in, pairs_in, text_at, number_at, pairs_at}
+use Rattle.rooms.specs.Forms.{pairs_in, text_at, number_at, pairs_at}
+use Rattle.room_model.specs.Readings.{changes_of}
 use Rattle.rooms.specs.declared.recording.Event.{Event}
 use Rattle.rooms.specs.declared.recording.Event.TheVariants.{Client, Edit, Show, End}
-
--- the record of an operation `["put",record]`; any other value has none
-abbrev pub put_in : List Data → Option Data
-put_in [] = None
-put_in (name ∷ []) = None
-put_in (name ∷ r ∷ []) = if is_text (codes "put") name then Some r else None
-put_in (name ∷ r ∷ d ∷ ds) = None
-
-abbrev pub put_of : Data → Option Data
-put_of d = option_and_then put_in (items_in d)
-
--- the records found so far with those that a diff puts under its ids, where it only puts
-abbrev pub puts_from : Pairs → Pairs → Option Pairs
-puts_from found [] = Some found
-puts_from found (p ∷ ps) = option_and_then (λ r. puts_from (put found p.0 r) ps) (put_of p.1)
 
 -- the field has this number
 abbrev pub has_number : Pairs → List ℕ → ℕ → Bool
@@ -43,7 +28,7 @@ client_event ps = if (length ps == 2) && has_number ps (codes "version") 3 then 
 -- `{"client":C,"diff":{..},"do":"edit"}`
 abbrev pub edit_event : Pairs → Option Event
 edit_event ps =
-    if length ps == 3 then option_and_then (λ client. option_map (Edit client) (option_and_then (puts_from []) (pairs_at ps (codes "diff")))) (number_at ps (codes "client"))
+    if length ps == 3 then option_and_then (λ client. option_map (Edit client) (option_and_then changes_of (pairs_at ps (codes "diff")))) (number_at ps (codes "client"))
     else None
 
 -- `{"client":C,"do":"show"}`

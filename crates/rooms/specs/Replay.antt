@@ -1,11 +1,12 @@
 -- What a recording writes, as a function of its bytes.
 use Rattle.std.specs.Prelude.{ℕ, ◌+◌, nat_lt, List, [], ◌∷◌, ◌++◌, length, Bool, true, false, if◌then◌else◌, Option, Some, None, Result, Ok, Err, slice_get, slice_set}
-use Rattle.rooms_val.specs.Data.{Data, Pairs}
+use Rattle.rooms_val.specs.Data.{Data}
 use Rattle.rooms_val.specs.Json.{value_of}
 use Rattle.rooms_val.specs.declared.fault.ValFault.{ValFault}
 use Rattle.rooms.specs.Lines.{longest_line, is_blank, is_whole, recorded_lines}
 use Rattle.rooms.specs.Events.{is_header, event_of}
-use Rattle.rooms.specs.Clients.{are_admitted}
+use Rattle.field_ops.specs.Changes.{Changes}
+use Rattle.rooms.specs.Clients.{may_edit}
 use Rattle.rooms.specs.Texts.{fault_line, show_line, end_line}
 use Rattle.rooms.specs.declared.fault.Fault.{Fault}
 use Rattle.rooms.specs.declared.fault.Fault.TheVariants.{Line, Step, Unended, TooMuch}
@@ -14,7 +15,7 @@ use Rattle.rooms.specs.declared.recording.Event.TheVariants.{Client, Edit, Show,
 
 -- the clients of a recording by number, each as its edits, oldest first
 abbrev pub World : Type 0
-World = List (List Pairs)
+World = List (List Changes)
 
 -- how far a recording was read: before its header, or in this world
 abbrev pub Progress : Type 0
@@ -26,12 +27,12 @@ pub data Taken : Type 0 where
   passed : List ℕ → Progress → Taken
   ended : List ℕ → Taken
 
--- an edit of a client, where there is that client and each record is admitted under its id
-abbrev pub edited : World → ℕ → Pairs → Option (List Pairs) → Taken
-edited world client puts None = refused Step
-edited world client puts (Some edits) = if are_admitted puts then passed [] (Some (slice_set world client (edits ++ puts ∷ []))) else refused Step
+-- an edit of a client, where there is that client and it may make the edit
+abbrev pub edited : World → ℕ → Changes → Option (List Changes) → Taken
+edited world client diff None = refused Step
+edited world client diff (Some edits) = if may_edit edits diff then passed [] (Some (slice_set world client (edits ++ diff ∷ []))) else refused Step
 
-abbrev pub shown : World → ℕ → Option (List Pairs) → Taken
+abbrev pub shown : World → ℕ → Option (List Changes) → Taken
 shown world client None = refused Step
 shown world client (Some edits) = passed (show_line client edits) (Some world)
 
@@ -42,7 +43,7 @@ joined (edits ∷ world) = refused Step
 
 abbrev pub happened : World → Event → Taken
 happened world Client = joined world
-happened world (Edit client puts) = edited world client puts (slice_get world client)
+happened world (Edit client diff) = edited world client diff (slice_get world client)
 happened world (Show client) = shown world client (slice_get world client)
 happened world End = ended end_line
 

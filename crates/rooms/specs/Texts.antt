@@ -3,7 +3,8 @@ use Rattle.std.specs.Prelude.{ℕ, pos, negsuc, List, [], ◌∷◌, ◌++◌, t
 use Rattle.rooms_val.specs.Data.{Pairs, boolean, whole, text, map, members_of, no_members}
 use Rattle.rooms_val.specs.Json.{text_of}
 use Rattle.rooms.specs.Lines.{newline}
-use Rattle.rooms.specs.Clients.{replayed}
+use Rattle.field_ops.specs.Changes.{Changes}
+use Rattle.rooms.specs.Clients.{held}
 use Rattle.rooms.specs.declared.fault.Fault.{Fault}
 use Rattle.rooms.specs.declared.fault.Fault.TheVariants.{Line, Step, Unended, TooMuch}
 
@@ -22,9 +23,9 @@ unfoldable pub fault_line : ℕ → Fault → List ℕ
 fault_line at fault = line_of ((codes "at", whole (pos at)) ∷ (codes "fault", text (fault_name fault)) ∷ [])
 
 -- what a client shows that was never connected: the clock -1, its edits replayed, nobody else, and how many edits it owes
-unfoldable pub show_line : ℕ → List Pairs → List ℕ
+unfoldable pub show_line : ℕ → List Changes → List ℕ
 show_line client edits = line_of (
-    (codes "clock", whole (negsuc 0)) ∷ (codes "doc", map (members_of (replayed [] edits))) ∷ (codes "others", map no_members)
+    (codes "clock", whole (negsuc 0)) ∷ (codes "doc", map (members_of (held edits))) ∷ (codes "others", map no_members)
     ∷ (codes "owed", whole (pos (length edits))) ∷ (codes "show", whole (pos client)) ∷ []
     )
 

@@ -1,11 +1,10 @@
 //! A client that was never connected.
-ghost use Rattle.std.specs.Prelude.{◌≡◌, [], ◌∷◌, ◌++◌, length, IfOk};
-ghost use Rattle.std.specs.Prelude.{◌<◌, ◌^◌};
-ghost use Rattle.rooms_val.specs.View.{data_of};
-ghost use Rattle.rooms.specs.Clients.{is_admitted, are_admitted, replayed};
+ghost use Rattle.std.specs.Prelude.{◌≡◌, [], ◌∷◌, ◌++◌, ◌<◌, ◌^◌, length, IfOk};
+ghost use Rattle.rooms.specs.Clients.{held, may_edit};
 
-use crate::fields::is_text;
-use rooms_val::{Fields, Mem, Val};
+use crate::document;
+use field_ops::Diff;
+use rooms_val::{Fields, Mem};
 use std::alloc::Global;
 use std::marker::Model;
 
@@ -13,25 +12,23 @@ use std::marker::Model;
 #[derive(Drop)]
 pub struct Client {
     document: Fields,
-    unanswered: Vec<Fields>,
+    unanswered: Vec<Diff>,
 }
 
 impl Model for Client {
-    ghost use Rattle.std.specs.Prelude.{◌≡◌, [], List};
-    ghost use Rattle.rooms_val.specs.Data.{Pairs};
-    ghost use Rattle.rooms_val.specs.Code.{coded_pairs};
+    ghost use Rattle.std.specs.Prelude.{◌≡◌, List};
     ghost use Rattle.std.specs.Coded.{coded_list};
-    ghost use Rattle.std.specs.Prelude.{◌<◌, ◌^◌};
-    ghost use Rattle.rooms_val.specs.View.{data_of};
-    ghost use Rattle.rooms.specs.Clients.{replayed};
+    ghost use Rattle.field_ops.specs.Changes.{Changes};
+    ghost use Rattle.field_ops.specs.WireChanges.{coded_changes};
+    ghost use Rattle.rooms.specs.Clients.{held};
 
-    ghost Value = { List Pairs };
+    ghost Value = { List Changes };
 
-    ghost coded = { coded_list coded_pairs };
+    ghost coded = { coded_list coded_changes };
 
     ghost view = { λ c. c.unanswered.items };
 
-    ghost invariant = { λ c. c.document ≡ replayed [] c.unanswered.items };
+    ghost invariant = { λ c. c.document ≡ held c.unanswered.items };
 }
 
 impl Client {
@@ -47,7 +44,7 @@ impl Client {
 
     /// The document: the edits replayed over the empty one.
     pub fn document(&self) -> &Fields
-        ensures { result.now ≡ replayed [] self.now }
+        ensures { result.now ≡ held self.now }
     {
         &self.document
     }
@@ -60,42 +57,26 @@ impl Client {
         self.unanswered.len()
     }
 
-    /// The client with a further edit, which puts records under their ids.
-    pub fn edit(self, alloc: Global, puts: Fields) -> Mem<Client>
-        ensures { IfOk result (λ client. client ≡ self ++ puts ∷ []) }
+    /// Whether it may make the edit.
+    pub fn may_edit(&self, alloc: Global, diff: &Diff) -> Mem<bool>
+        ensures { IfOk result (λ may. may ≡ may_edit self.now diff.now) }
+    {
+        document::may_edit(alloc, &self.document, diff)
+    }
+
+    /// The client with a further edit.
+    pub fn edit(self, alloc: Global, diff: Diff) -> Mem<Client>
+        ensures { IfOk result (λ client. client ≡ self ++ diff ∷ []) }
     {
         let Client {
-            mut document,
+            document,
             mut unanswered,
         } = self;
-        for (id, record) in puts.as_slice() {
-            drop(document.put(id.copy(alloc)?, record.copy(alloc)?)?);
-        }
-        unanswered.push(puts)?;
+        let document = document::step(alloc, document, &diff)?;
+        unanswered.push(diff)?;
         Ok(Client {
             document,
             unanswered,
         })
-    }
-}
-
-/// Whether each record is admitted under its id: it is a map whose `id` is that text.
-pub(crate) fn are_admitted(puts: &Fields) -> bool
-    ensures { result ≡ are_admitted puts.now }
-{
-    for (id, record) in puts.as_slice() {
-        if !is_admitted(id.as_str(), record) {
-            return false;
-        }
-    }
-    true
-}
-
-fn is_admitted(id: &str, record: &Val) -> bool
-    ensures { result ≡ is_admitted id.now (data_of record.now) }
-{
-    match record.get("id") {
-        Some(named) => is_text(named, id),
-        None => false,
     }
 }

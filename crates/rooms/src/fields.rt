@@ -1,10 +1,10 @@
 //! What stands in the fields of a line's value.
 ghost use Rattle.std.specs.Prelude.{◌≡◌, ◌==◌, option_map};
 ghost use Rattle.rooms_val.specs.View.{data_of};
-ghost use Rattle.rooms.specs.Forms.{is_text, items_in, pairs_in, text_at, number_at, pairs_at};
+ghost use Rattle.rooms.specs.Forms.{is_text, pairs_in, text_at, number_at};
 ghost use Rattle.rooms.specs.Events.{has_number};
 
-use rooms_val::{Fields, Val, Vals};
+use rooms_val::{Fields, Val};
 
 /// The fields of a value that is a map.
 pub(crate) fn fields_in(val: &Val) -> Option<&Fields>
@@ -12,16 +12,6 @@ pub(crate) fn fields_in(val: &Val) -> Option<&Fields>
 {
     match val {
         Val::Map(fields) => Some(fields),
-        _ => None,
-    }
-}
-
-/// The values of a value that is a list.
-pub(crate) fn items_in(val: &Val) -> Option<&Vals>
-    ensures { option_map (λ items. items.now) result ≡ items_in (data_of val.now) }
-{
-    match val {
-        Val::List(items) => Some(items),
         _ => None,
     }
 }
@@ -54,13 +44,6 @@ pub(crate) fn number_at(fields: &Fields, key: &str) -> Option<u64>
         Val::Int(number) => u64::try_from(*number).ok(),
         _ => None,
     }
-}
-
-/// The map under a key.
-pub(crate) fn fields_at<'a>(fields: &'a Fields, key: &str) -> Option<&'a Fields>
-    ensures { option_map (λ inner. inner.now) result ≡ pairs_at fields.now key.now }
-{
-    fields_in(fields.get(key)?)
 }
 
 /// Whether the number under a key is this one.

@@ -6,6 +6,7 @@
 #![tactic(auto)]
 
 mod client;
+mod document;
 mod fault;
 mod fields;
 mod job;

@@ -1,10 +1,13 @@
 //! The header and the events of a recording, read from the values of its lines.
-ghost use Rattle.std.specs.Prelude.{◌≡◌, [], IfOk, option_map};
-ghost use Rattle.rooms_val.specs.View.{data_of, items_view};
-ghost use Rattle.rooms.specs.Events.{is_header_map, is_header, put_in, put_of, puts_from, client_event, edit_event, show_event, end_event, event_named, event_in, event_of};
+ghost use Rattle.std.specs.Prelude.{◌≡◌, IfOk, option_and_then};
+ghost use Rattle.rooms_val.specs.View.{data_of};
+ghost use Rattle.room_model.specs.Readings.{changes_of};
+ghost use Rattle.rooms.specs.Forms.{pairs_in};
+ghost use Rattle.rooms.specs.Events.{is_header_map, is_header, client_event, edit_event, show_event, end_event, event_named, event_in, event_of};
 
-use crate::fields::{fields_at, fields_in, has_number, is_text, items_in, number_at, text_at};
-use rooms_val::{Fields, Mem, Val};
+use crate::fields::{fields_in, has_number, number_at, text_at};
+use field_ops::{Diff, read_diff};
+use rooms_val::{Fields, Mem, OpFault, OutOfMemory, Val};
 use std::alloc::Global;
 
 /// The version of the records that recordings have.
@@ -15,8 +18,8 @@ const VERSION: u64 = 3;
 pub enum Event {
     /// A client joins.
     Client,
-    /// A client puts records under their ids.
-    Edit { client: u64, puts: Fields },
+    /// A client edits its document.
+    Edit { client: u64, diff: Diff },
     /// A client shows what it holds.
     Show { client: u64 },
     /// The recording ends.
@@ -95,11 +98,11 @@ fn edit_event(alloc: Global, fields: &Fields) -> Mem<Option<Event>>
     let Some(client) = number_at(fields, "client") else {
         return Ok(None);
     };
-    let Some(diff) = fields_at(fields, "diff") else {
+    let Some(val) = fields.get("diff") else {
         return Ok(None);
     };
-    match puts_of(alloc, diff)? {
-        Some(puts) => Ok(Some(Event::Edit { client, puts })),
+    match diff_of(alloc, val)? {
+        Some(diff) => Ok(Some(Event::Edit { client, diff })),
         None => Ok(None),
     }
 }
@@ -124,36 +127,18 @@ fn end_event(fields: &Fields) -> Option<Event>
     }
 }
 
-/// The records that a diff puts under its ids, or none where it does more.
-fn puts_of(alloc: Global, diff: &Fields) -> Mem<Option<Fields>>
-    ensures { IfOk result (λ puts. puts ≡ puts_from [] diff.now) }
+/// The diff that the value stands for, or none.
+fn diff_of(alloc: Global, val: &Val) -> Mem<Option<Diff>>
+    ensures { IfOk result (λ diff. diff ≡ option_and_then changes_of (pairs_in (data_of val.now))) }
 {
-    let mut puts = Fields::new(alloc);
-    for (id, operation) in diff.as_slice() {
-        match put_of(operation) {
-            Some(record) => drop(puts.put(id.copy(alloc)?, record.copy(alloc)?)?),
-            None => return Ok(None),
+    // That the keys in the value rise is told by its kind, and the same of a diff by its length.
+    let _ = val.kind();
+    match read_diff(alloc, val) {
+        Ok(diff) => {
+            let _ = diff.len();
+            Ok(Some(diff))
         }
-    }
-    Ok(Some(puts))
-}
-
-/// The record of an operation that is a put.
-fn put_of(operation: &Val) -> Option<&Val>
-    ensures { option_map (λ r. data_of r.now) result ≡ put_of (data_of operation.now) }
-{
-    put_in(items_in(operation)?.as_slice())
-}
-
-fn put_in(parts: &[Val]) -> Option<&Val>
-    ensures { option_map (λ r. data_of r.now) result ≡ put_in (items_view parts.now) }
-{
-    match parts {
-        [name, record] => if is_text(name, "put") {
-            Some(record)
-        } else {
-            None
-        },
-        _ => None,
+        Err(OpFault::WrongKind) => Ok(None),
+        Err(OpFault::OutOfMemory) => Err(OutOfMemory),
     }
 }

@@ -155,6 +155,59 @@ fn replays_recordings(rt: HostRuntime) -> Result<(), Fail> {
 }
 
 #[test]
+fn edits_documents(rt: HostRuntime) -> Result<(), Fail> {
+    let alloc = rt.alloc();
+    let put =
+        r#"{"client":0,"diff":{"a":["put",{"id":"a","l":[1],"m":{"n":0},"x":1}],"b":["put",{"id":"b"}],"c":["put",{"id":"c"}]},"do":"edit"}"#;
+    let patch =
+        r#"{"client":0,"diff":{"a":["patch",{"x":["put",2],"y":["put",null],"z":["delete"]}],"b":["remove"],"c":["patch",{}]},"do":"edit"}"#;
+    let patched =
+        r#"{"clock":-1,"doc":{"a":{"id":"a","l":[1],"m":{"n":0},"x":2,"y":null},"c":{"id":"c"}},"others":{},"owed":2,"show":0}"#;
+    let delete =
+        r#"{"client":0,"diff":{"a":["patch",{"x":["delete"],"y":["delete"]}],"d":["put",{"id":"d"}]},"do":"edit"}"#;
+    let deleted =
+        r#"{"clock":-1,"doc":{"a":{"id":"a","l":[1],"m":{"n":0}},"c":{"id":"c"},"d":{"id":"d"}},"others":{},"owed":3,"show":0}"#;
+    let nested =
+        r#"{"client":0,"diff":{"a":["patch",{"l":["append",[2,3],1],"m":["patch",{"n":["delete"],"o":["put",5]}]}]},"do":"edit"}"#;
+    let nest =
+        r#"{"clock":-1,"doc":{"a":{"id":"a","l":[1,2,3],"m":{"o":5}},"c":{"id":"c"},"d":{"id":"d"}},"others":{},"owed":4,"show":0}"#;
+    // An append at another length, and a patch of a list, don't act.
+    let passed =
+        r#"{"client":0,"diff":{"a":["patch",{"l":["append",[9],1]}],"c":["patch",{"id":["patch",{"x":["put",1]}]}]},"do":"edit"}"#;
+    let after =
+        r#"{"clock":-1,"doc":{"a":{"id":"a","l":[1,2,3],"m":{"o":5}},"c":{"id":"c"},"d":{"id":"d"}},"others":{},"owed":5,"show":0}"#;
+    let recording = lines(
+        alloc,
+        &[
+            HEADER, CLIENT, put, patch, SHOW, delete, SHOW, nested, SHOW, passed, SHOW, END,
+        ],
+    )?;
+    let written = lines(alloc, &[patched, deleted, nest, after, ENDED])?;
+    replays(&rt, alloc, recording.as_bytes(), 4096, written.as_str(), 0)
+}
+
+#[test]
+fn refuses_edits(rt: HostRuntime) -> Result<(), Fail> {
+    let alloc = rt.alloc();
+    let put = r#"{"client":0,"diff":{"a":["put",{"id":"a"}]},"do":"edit"}"#;
+    let written = lines(alloc, &[SHOWN_EMPTY, r#"{"at":5,"fault":"Step"}"#])?;
+    let refused: [&str; 7] = [
+        r#"{"client":0,"diff":{"b":["patch",{"x":["put",1]}]},"do":"edit"}"#,
+        r#"{"client":0,"diff":{"b":["remove"]},"do":"edit"}"#,
+        r#"{"client":0,"diff":{"a":["patch",{"id":["put","b"]}]},"do":"edit"}"#,
+        r#"{"client":0,"diff":{"a":["patch",{"id":["delete"]}]},"do":"edit"}"#,
+        r#"{"client":0,"diff":{"b":["put",[]]},"do":"edit"}"#,
+        r#"{"client":0,"diff":{"b":["put",{"id":"b"}],"c":["put",{"id":"b"}]},"do":"edit"}"#,
+        r#"{"client":1,"diff":{"a":["remove"]},"do":"edit"}"#,
+    ];
+    for line in refused.iter() {
+        let recording = lines(alloc, &[HEADER, CLIENT, SHOW, put, line])?;
+        replays(&rt, alloc, recording.as_bytes(), 4096, written.as_str(), 3)?;
+    }
+    Ok(())
+}
+
+#[test]
 fn takes_a_last_line_without_a_newline(rt: HostRuntime) -> Result<(), Fail> {
     let alloc = rt.alloc();
     let mut recording = lines(alloc, &[HEADER, CLIENT])?;
@@ -167,7 +220,7 @@ fn takes_a_last_line_without_a_newline(rt: HostRuntime) -> Result<(), Fail> {
 fn refuses_what_is_no_event(rt: HostRuntime) -> Result<(), Fail> {
     let alloc = rt.alloc();
     let written = lines(alloc, &[SHOWN_EMPTY, r#"{"at":4,"fault":"Line"}"#])?;
-    let bad: [&str; 15] = [
+    let bad: [&str; 17] = [
         "{\"do\":\"sh",
         r#"{"client":1.0,"do":"show"}"#,
         r#"{"client":1e3,"do":"show"}"#,
@@ -180,7 +233,9 @@ fn refuses_what_is_no_event(rt: HostRuntime) -> Result<(), Fail> {
         r#"{"do":"\ud800"}"#,
         r#"{"client":0,"diff":{"a":["put"]},"do":"edit"}"#,
         r#"{"client":0,"diff":{"a":["put",{"id":"a"},1]},"do":"edit"}"#,
-        r#"{"client":0,"diff":{"a":["patch",{}]},"do":"edit"}"#,
+        r#"{"client":0,"diff":{"a":["patch",[]]},"do":"edit"}"#,
+        r#"{"client":0,"diff":{"a":["patch",{"x":["append",[],4294967296]}]},"do":"edit"}"#,
+        r#"{"client":0,"diff":{"a":["delete"]},"do":"edit"}"#,
         r#"{"client":0,"diff":[],"do":"edit"}"#,
         r#"{"do":"client","version":2}"#,
     ];

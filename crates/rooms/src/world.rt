@@ -3,11 +3,12 @@ ghost use Rattle.std.specs.Prelude.{◌≡◌, [], Some, IfOk, slice_get};
 ghost use Rattle.rooms.specs.Replay.{happened, joined, edited, shown};
 ghost use Rattle.rooms.specs.Replies.{Answers};
 
-use crate::client::{Client, are_admitted};
+use crate::client::Client;
 use crate::fault::Fault;
 use crate::recording::Event;
 use crate::texts::{end_line, show_line};
-use rooms_val::{Fields, Mem};
+use field_ops::Diff;
+use rooms_val::Mem;
 use std::alloc::Global;
 use std::mem;
 
@@ -44,7 +45,7 @@ impl World {
     {
         match event {
             Event::Client => self.join(alloc),
-            Event::Edit { client, puts } => self.edit(alloc, client, puts),
+            Event::Edit { client, diff } => self.edit(alloc, client, diff),
             Event::Show { client } => self.show(alloc, client),
             Event::End => Ok(Reply::Ended(end_line(alloc)?)),
         }
@@ -60,17 +61,17 @@ impl World {
         Ok(Reply::Wrote(Vec::new(alloc)))
     }
 
-    fn edit(&mut self, alloc: Global, number: u64, puts: Fields) -> Mem<Reply>
+    fn edit(&mut self, alloc: Global, number: u64, diff: Diff) -> Mem<Reply>
         ensures { IfOk result (λ reply. Answers
-            (edited self.old.clients.items number puts (slice_get self.old.clients.items number))
+            (edited self.old.clients.items number diff (slice_get self.old.clients.items number))
             reply (Some self.new.clients.items)) }
     {
         let place = number as usize;
-        if place >= self.clients.len() || !are_admitted(&puts) {
+        if place >= self.clients.len() || !self.clients[place].may_edit(alloc, &diff)? {
             return Ok(Reply::Refused(Fault::Step));
         }
         let client = mem::replace(&mut self.clients[place], Client::new(alloc));
-        self.clients[place] = client.edit(alloc, puts)?;
+        self.clients[place] = client.edit(alloc, diff)?;
         Ok(Reply::Wrote(Vec::new(alloc)))
     }
 

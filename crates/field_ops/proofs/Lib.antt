@@ -1,0 +1,7 @@
+pub mod ForRoomsVal
+pub mod Stages
+pub mod Soundness
+pub mod Depths
+pub mod ByKey
+pub mod Sent
+pub mod Turns

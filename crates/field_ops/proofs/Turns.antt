@@ -1,0 +1,220 @@
+-- What operations in turn make of a record: with an inverse the record before, and of two what their one operation makes.
+use Rattle.std.proofs.Common.{◌≡◌, ℕ, Bool, true, false, ◌||◌, cond, List, [], ◌∷◌, ◌++◌, Option, Some, None, refl, sym, ap, subst, ◌∙◌, length, nat_eq}
+use Rattle.std.specs.Option.{option_and_then}
+use Rattle.rooms_val.specs.Data.{Data, null, boolean, whole, text, list, map, Pairs, Items, item, no_items, items_of, list_of, Members, no_members, member, members_of, pairs_of, IsSound, AreSoundItems, AreSoundMembers}
+use Rattle.rooms_val.proofs.Views.{pairs_of-members_of, sound_put, sound_where}
+use Rattle.field_ops.specs.Entries.{AreRising, value_at, set_at}
+use Rattle.field_ops.specs.Edits.{Edit, put, patch, append, delete, Edits, no_edits, edit_at, edits_of, patch_of, Patch, edit_has_append, edits_have_append, IsSoundEdit, AreSoundEdits}
+use Rattle.field_ops.specs.Changes as change
+use Rattle.field_ops.specs.Patched.{edited, patched, value_after, raw}
+use Rattle.field_ops.specs.Inverted.{undo, inverted, inverse}
+use Rattle.field_ops.specs.Joined.{after, both, edit_after, in_turn}
+use Rattle.field_ops.specs.Laws.{IsSoundRecord, raw_after}
+use Rattle.field_ops.proofs.ForRoomsVal.{ties, same_pairs}
+use Rattle.field_ops.proofs.ByKey.{at-patched, at-inverted, at-both, rising-patched}
+use Rattle.field_ops.proofs.Sent.{edits_of-patch_of}
+
+members_of-pairs_of : (ms : Members) → members_of (pairs_of ms) ≡ ms
+members_of-pairs_of no_members = refl
+members_of-pairs_of (member k d ms) = ap (λ rest. member k d rest) (members_of-pairs_of ms)
+
+-- what stands in a sound map is sound
+sound_at : (f : Pairs) (k : List ℕ) → AreSoundMembers (members_of f) → IsSoundRecord (value_at f k)
+sound_at [] k each = tt
+sound_at (p ∷ f) k each = elim (ties k p.0) as (λ b. IsSoundRecord (cond b (Some p.1) (value_at f k))) [ true ↦ each.0 | false ↦ sound_at f k each.1 ]
+
+sound_in : (ms : Members) (k : List ℕ) → AreSoundMembers ms → IsSoundRecord (value_at (pairs_of ms) k)
+sound_in ms k each = sound_at (pairs_of ms) k (subst AreSoundMembers (sym (members_of-pairs_of ms)) each)
+
+-- what holds of a patch wherever it holds of its operations holds of every operation
+module _ (P : Edit → Type 0) (of_put : (d : Data) → P (put d)) (of_patch : (p : Patch) → ((k : List ℕ) (e : Edit) → value_at p k ≡ Some e → P e) → P (patch (edits_of p)))
+    (of_append : (ds : List Data) (n : ℕ) → P (append ds n)) (of_delete : P delete) where
+  mutual
+    pub every : (e : Edit) → P e
+    every (put d) = of_put d
+    every (patch es) = subst (λ t. P (patch t)) (edits_of-patch_of es) (of_patch (patch_of es) (every_at es))
+    every (append ds n) = of_append ds n
+    every delete = of_delete
+
+    every_at : (es : Edits) (k : List ℕ) (e : Edit) → value_at (patch_of es) k ≡ Some e → P e
+    every_at no_edits k e is = absurd (cc)
+    every_at (edit_at l f es) k e is = elim (ties k l) as (λ b. cond b (Some f) (value_at (patch_of es) k) ≡ Some e → P e) [
+      | true ↦ λ same. let one : f ≡ e = cc in subst P one (every f)
+      | false ↦ λ later. every_at es k e later
+    ] is
+
+-- after the operation that undoes it a value is as before
+abbrev Undone : Edit → Type 0
+Undone e = (o : Option Data) → IsSoundRecord o → value_after (undo e o) (edited e o) ≡ o
+
+undone_at : (f : Pairs) (k : List ℕ) (e : Option Edit) → ((d : Edit) → e ≡ Some d → Undone d) → IsSoundRecord (value_at f k)
+    → value_after (option_and_then (λ d. undo d (value_at f k)) e) (value_after e (value_at f k)) ≡ value_at f k
+undone_at f k None each sound = refl
+undone_at f k (Some e) each sound = each e refl (value_at f k) sound
+
+map_back : (p : Patch) (f : Pairs) → ((k : List ℕ) (e : Edit) → value_at p k ≡ Some e → Undone e) → AreRising f → ((k : List ℕ) → IsSoundRecord (value_at f k))
+    → patched (edits_of (inverted (edits_of p) f)) (patched (edits_of p) f) ≡ f
+map_back p f each rising sound =
+    same_pairs _ f (rising-patched (edits_of (inverted (edits_of p) f)) (patched (edits_of p) f) (rising-patched (edits_of p) f rising)) rising (λ k.
+    at-patched (inverted (edits_of p) f) (patched (edits_of p) f) k
+    ∙ (λ i. value_after (at-inverted p f k i) (at-patched p f k i))
+    ∙ undone_at f k (value_at p k) (each k) (sound k))
+
+undone_patch : (p : Patch) → ((k : List ℕ) (e : Edit) → value_at p k ≡ Some e → Undone e) → Undone (patch (edits_of p))
+undone_patch p each None sound = refl
+undone_patch p each (Some null) sound = refl
+undone_patch p each (Some (boolean b)) sound = refl
+undone_patch p each (Some (whole z)) sound = refl
+undone_patch p each (Some (text s)) sound = refl
+undone_patch p each (Some (list ds)) sound = refl
+undone_patch p each (Some (map ms)) sound =
+    let f = pairs_of ms in
+    ap (λ g. Some (map (members_of (patched (edits_of (inverted (edits_of p) f)) g)))) (pairs_of-members_of (patched (edits_of p) f))
+    ∙ ap (λ g. Some (map (members_of g))) (map_back p f each sound.0 (λ k. sound_in ms k sound.1))
+    ∙ ap (λ m. Some (map m)) (members_of-pairs_of ms)
+
+undone_put : (d : Data) → Undone (put d)
+undone_put d None sound = refl
+undone_put d (Some old) sound = refl
+
+undone_delete : Undone delete
+undone_delete None sound = refl
+undone_delete (Some old) sound = refl
+
+undone_list : (ds : List Data) (n : ℕ) (es : Items) (b : Bool) → value_after (cond b (Some (put (list es))) None) (Some (cond b (list (items_of (list_of es ++ ds))) (list es))) ≡ Some (list es)
+undone_list ds n es true = refl
+undone_list ds n es false = refl
+
+undone_append : (ds : List Data) (n : ℕ) → Undone (append ds n)
+undone_append ds n None sound = refl
+undone_append ds n (Some null) sound = refl
+undone_append ds n (Some (boolean b)) sound = refl
+undone_append ds n (Some (whole z)) sound = refl
+undone_append ds n (Some (text s)) sound = refl
+undone_append ds n (Some (list es)) sound = undone_list ds n es (nat_eq (length (list_of es)) n)
+undone_append ds n (Some (map ms)) sound = refl
+
+undone : (e : Edit) → Undone e
+undone = every Undone undone_put undone_patch undone_append undone_delete
+
+pub brings_back : (c : change.Change) (r : Option Data) → IsSoundRecord r → raw_after (inverse c r) (raw c r) ≡ r
+brings_back (change.put d) None sound = refl
+brings_back (change.put d) (Some r) sound = refl
+brings_back (change.patch p) None sound = refl
+brings_back (change.patch p) (Some null) sound = refl
+brings_back (change.patch p) (Some (boolean b)) sound = refl
+brings_back (change.patch p) (Some (whole z)) sound = refl
+brings_back (change.patch p) (Some (text s)) sound = refl
+brings_back (change.patch p) (Some (list ds)) sound = refl
+brings_back (change.patch p) (Some (map ms)) sound = undone (patch (edits_of p)) (Some (map ms)) sound
+brings_back change.remove None sound = refl
+brings_back change.remove (Some r) sound = refl
+
+-- the one operation does what the two do in turn
+abbrev Joins : Edit → Type 0
+Joins e = edit_has_append e ≡ false → (d : Edit) → edit_has_append d ≡ false → (o : Option Data) → IsSoundRecord o → edited (after e d) o ≡ edited e (edited d o)
+
+or_left : (a b : Bool) → (a || b) ≡ false → a ≡ false
+or_left true b h = h
+or_left false b h = refl
+
+or_right : (a b : Bool) → (a || b) ≡ false → b ≡ false
+or_right true b h = cc
+or_right false b h = h
+
+plain_at : (p : Patch) (k : List ℕ) (e : Edit) → edits_have_append (edits_of p) ≡ false → value_at p k ≡ Some e → edit_has_append e ≡ false
+plain_at [] k e plain is = cc
+plain_at (d ∷ p) k e plain is = elim (ties k d.0) as (λ b. cond b (Some d.1) (value_at p k) ≡ Some e → edit_has_append e ≡ false) [
+  | true ↦ λ same. let one : d.1 ≡ e = cc in subst (λ x. edit_has_append x ≡ false) one (or_left (edit_has_append d.1) (edits_have_append (edits_of p)) plain)
+  | false ↦ λ later. plain_at p k e (or_right (edit_has_append d.1) (edits_have_append (edits_of p)) plain) later
+] is
+
+joins_at : (v : Option Data) → IsSoundRecord v → (b a : Option Edit) → ((e : Edit) → b ≡ Some e → Joins e) → ((e : Edit) → b ≡ Some e → edit_has_append e ≡ false) → ((d : Edit) → a ≡ Some d → edit_has_append d ≡ false)
+    → value_after (edit_after b a) v ≡ value_after b (value_after a v)
+joins_at v sound None a each later earlier = refl
+joins_at v sound (Some e) None each later earlier = refl
+joins_at v sound (Some e) (Some d) each later earlier = each e refl (later e refl) d (earlier d refl) v sound
+
+map_turn : (q p : Patch) (f : Pairs) → ((k : List ℕ) (e : Edit) → value_at q k ≡ Some e → Joins e) → edits_have_append (edits_of q) ≡ false → edits_have_append (edits_of p) ≡ false → AreRising f → ((k : List ℕ) → IsSoundRecord (value_at f k))
+    → patched (edits_of (both (edits_of q) p)) f ≡ patched (edits_of q) (patched (edits_of p) f)
+map_turn q p f each later earlier rising sound =
+    same_pairs _ _ (rising-patched (edits_of (both (edits_of q) p)) f rising) (rising-patched (edits_of q) (patched (edits_of p) f) (rising-patched (edits_of p) f rising)) (λ k.
+    at-patched (both (edits_of q) p) f k
+    ∙ ap (λ e. value_after e (value_at f k)) (at-both q p k)
+    ∙ joins_at (value_at f k) (sound k) (value_at q k) (value_at p k) (each k) (λ e is. plain_at q k e later is) (λ d is. plain_at p k d earlier is)
+    ∙ sym (at-patched q (patched (edits_of p) f) k ∙ ap (λ v. value_after (value_at q k) v) (at-patched p f k)))
+
+joins_map : (q p : Patch) → ((k : List ℕ) (e : Edit) → value_at q k ≡ Some e → Joins e) → edits_have_append (edits_of q) ≡ false → edits_have_append (edits_of p) ≡ false → (o : Option Data) → IsSoundRecord o
+    → edited (patch (edits_of (both (edits_of q) p))) o ≡ edited (patch (edits_of q)) (edited (patch (edits_of p)) o)
+joins_map q p each later earlier None sound = refl
+joins_map q p each later earlier (Some null) sound = refl
+joins_map q p each later earlier (Some (boolean b)) sound = refl
+joins_map q p each later earlier (Some (whole z)) sound = refl
+joins_map q p each later earlier (Some (text s)) sound = refl
+joins_map q p each later earlier (Some (list ds)) sound = refl
+joins_map q p each later earlier (Some (map ms)) sound =
+    ap (λ g. Some (map (members_of g))) (map_turn q p (pairs_of ms) each later earlier sound.0 (λ k. sound_in ms k sound.1)
+    ∙ ap (λ g. patched (edits_of q) g) (sym (pairs_of-members_of (patched (edits_of p) (pairs_of ms)))))
+
+joins_patch : (q : Patch) → ((k : List ℕ) (e : Edit) → value_at q k ≡ Some e → Joins e) → Joins (patch (edits_of q))
+joins_patch q each later (put d) earlier o sound = refl
+joins_patch q each later (patch es) earlier o sound =
+    joins_map q (patch_of es) each later (ap edits_have_append (edits_of-patch_of es) ∙ earlier) o sound ∙ ap (λ t. edited (patch (edits_of q)) (edited (patch t) o)) (edits_of-patch_of es)
+joins_patch q each later (append ds n) earlier o sound = cc
+joins_patch q each later delete earlier o sound = refl
+
+joins : (e : Edit) → Joins e
+joins = every Joins (λ d later first earlier o sound. refl) joins_patch (λ ds n later first earlier o sound. cc) (λ later first earlier o sound. refl)
+
+pub does_both : (a b : change.Change) (r : Option Data) → change.has_append a ≡ false → change.has_append b ≡ false → IsSoundRecord r → raw (in_turn a b) r ≡ raw b (raw a r)
+does_both a (change.put d) r earlier later sound = refl
+does_both (change.put d) (change.patch q) r earlier later sound = refl
+does_both (change.patch p) (change.patch q) r earlier later sound = joins_map q p (λ k e is. joins e) later earlier r sound
+does_both change.remove (change.patch q) r earlier later sound = refl
+does_both a change.remove r earlier later sound = refl
+
+sound_append : (es ds : List Data) → AreSoundItems (items_of es) → AreSoundItems (items_of ds) → AreSoundItems (items_of (es ++ ds))
+sound_append [] ds each more = more
+sound_append (e ∷ es) ds each more = (each.0, sound_append es ds each.1 more)
+
+items_of-list_of : (es : Items) → items_of (list_of es) ≡ es
+items_of-list_of no_items = refl
+items_of-list_of (item d es) = ap (λ rest. item d rest) (items_of-list_of es)
+
+sound_longer : (ds : List Data) (es : Items) (b : Bool) → AreSoundItems (items_of ds) → AreSoundItems es → IsSound (cond b (list (items_of (list_of es ++ ds))) (list es))
+sound_longer ds es true more each = sound_append (list_of es) ds (subst AreSoundItems (sym (items_of-list_of es)) each) more
+sound_longer ds es false more each = each
+
+sound_set : (f : Pairs) (k : List ℕ) (o : Option Data) → IsSound (map (members_of f)) → IsSoundRecord o → IsSound (map (members_of (set_at f k o)))
+sound_set f k None sound new = sound_where _ f sound
+sound_set f k (Some d) sound new = sound_put f k d sound new
+
+-- sound operations leave what is sound sound
+mutual
+  sound_edited : (e : Edit) → IsSoundEdit e → (o : Option Data) → IsSoundRecord o → IsSoundRecord (edited e o)
+  sound_edited (put d) new o old = new
+  sound_edited (patch es) new None old = tt
+  sound_edited (patch es) new (Some null) old = old
+  sound_edited (patch es) new (Some (boolean b)) old = old
+  sound_edited (patch es) new (Some (whole z)) old = old
+  sound_edited (patch es) new (Some (text s)) old = old
+  sound_edited (patch es) new (Some (list ds)) old = old
+  sound_edited (patch es) new (Some (map ms)) old = sound_patched es new.1 (pairs_of ms) (subst (λ m. IsSound (map m)) (sym (members_of-pairs_of ms)) old)
+  sound_edited (append ds n) new None old = tt
+  sound_edited (append ds n) new (Some null) old = old
+  sound_edited (append ds n) new (Some (boolean b)) old = old
+  sound_edited (append ds n) new (Some (whole z)) old = old
+  sound_edited (append ds n) new (Some (text s)) old = old
+  sound_edited (append ds n) new (Some (list es)) old = sound_longer ds es (nat_eq (length (list_of es)) n) new.0 old
+  sound_edited (append ds n) new (Some (map ms)) old = old
+  sound_edited delete new o old = tt
+
+  sound_patched : (es : Edits) → AreSoundEdits es → (f : Pairs) → IsSound (map (members_of f)) → IsSound (map (members_of (patched es f)))
+  sound_patched no_edits new f sound = sound
+  sound_patched (edit_at k e es) new f sound =
+      sound_set (patched es f) k (edited e (value_at f k)) (sound_patched es new.1 f sound) (sound_edited e new.0 (value_at f k) (sound_at f k sound.1))
+
+pub sound_raw : (c : change.Change) (r : Option Data) → change.IsSoundChange c → IsSoundRecord r → IsSoundRecord (raw c r)
+sound_raw (change.put d) r new old = new
+sound_raw (change.patch p) r new old = sound_edited (patch (edits_of p)) new r old
+sound_raw change.remove r new old = tt

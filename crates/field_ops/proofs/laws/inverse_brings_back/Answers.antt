@@ -1,0 +1,5 @@
+use Rattle.field_ops.proofs.Turns.{brings_back}
+use Rattle.field_ops.proofs.laws.inverse_brings_back.Goals as goal
+
+pub returns : goal.returns
+returns c = brings_back

@@ -1,0 +1,5 @@
+use Rattle.field_ops.proofs.Sent.{one_change}
+use Rattle.field_ops.proofs.laws.one_operation_each.Goals as goal
+
+pub returns : goal.returns
+returns c = one_change

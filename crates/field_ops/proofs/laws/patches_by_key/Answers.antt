@@ -1,0 +1,5 @@
+use Rattle.field_ops.proofs.ByKey.{at-patched}
+use Rattle.field_ops.proofs.laws.patches_by_key.Goals as goal
+
+pub returns : goal.returns
+returns c = at-patched

@@ -1,0 +1,9 @@
+use Rattle.std.proofs.Common.{sym, ap, ◌∙◌}
+use Rattle.rooms_val.proofs.Views.{pairs_of-members_of}
+use Rattle.field_ops.specs.Edits.{edits_of}
+use Rattle.field_ops.specs.Inverted.{inverted}
+use Rattle.field_ops.proofs.undoing.patch_back.Goals as goal
+
+pub returns-in_ok-inverse_object-in-Map : goal.returns-in_ok-inverse_object-in-Map
+returns-in_ok-inverse_object-in-Map c =
+    rw c.in-Map.is (c.in_ok-inverse_object-in-Map.ensures ∙ ap (λ f. inverted (edits_of c.args.diff.now) f) (sym (pairs_of-members_of c.in-Map.fields)))

@@ -1,0 +1,12 @@
+pub mod Entries
+pub mod Edits
+pub mod Wire
+pub mod Changes
+pub mod WireChanges
+pub mod Patched
+pub mod Inverted
+pub mod Joined
+pub mod View
+pub mod ViewChanges
+pub mod Falls
+pub mod Laws

@@ -1,0 +1,76 @@
+-- The value by which an operation is sent and kept: a list that begins with its name.
+use Rattle.std.specs.Prelude.{◌≡◌, ℕ, ℤ, pos, negsuc, List, [], ◌∷◌, refl, codes, length, nat_eq, if◌then◌else◌}
+use Rattle.std.specs.Prelude as std
+use Rattle.std.specs.Coded.{Coded, code_by, coded×, coded_list, coded_ℕ}
+use mathlib.Core.Path.{ap}
+use Rattle.rooms_val.specs.Data.{Data, null, boolean, whole, text, list, map, Items, no_items, item, Members, no_members, member, items_of, list_of, Pairs}
+use Rattle.rooms_val.specs.Code.{coded_data}
+use Rattle.field_ops.specs.Edits.{Edit, put, patch, append, delete, Edits, no_edits, edit_at, Patch}
+
+-- the list of a name and what follows it
+abbrev pub named : List ℕ → Items → Data
+named name ds = list (item (text name) ds)
+
+abbrev mutual
+  -- the value of an operation on a value
+  pub edit_data : Edit → Data
+  edit_data (put d) = named (codes "put") (item d no_items)
+  edit_data (patch es) = named (codes "patch") (item (map (edits_data es)) no_items)
+  edit_data (append ds n) = named (codes "append") (item (list (items_of ds)) (item (whole (pos n)) no_items))
+  edit_data delete = named (codes "delete") no_items
+
+  -- the map of a patch
+  pub edits_data : Edits → Members
+  edits_data no_edits = no_members
+  edits_data (edit_at k e es) = member k (edit_data e) (edits_data es)
+
+-- the pairs of that map
+abbrev pub patch_pairs : Patch → Pairs
+patch_pairs p = std.map (λ e. (e.0, edit_data e.1)) p
+
+abbrev number_in : ℤ → ℕ
+number_in (pos n) = n
+number_in (negsuc n) = 0
+
+abbrev mutual
+  -- the operation that a value is, where it is one
+  pub edit_in : Data → Edit
+  edit_in (list (item (text name) (item (map ms) no_items))) = if nat_eq (length name) 5 then patch (edits_in ms) else put (map ms)
+  edit_in (list (item name (item d no_items))) = put d
+  edit_in (list (item name (item (list ds) (item (whole z) no_items)))) = append (list_of ds) (number_in z)
+  edit_in d = delete
+
+  pub edits_in : Members → Edits
+  edits_in no_members = no_edits
+  edits_in (member k d ms) = edit_at k (edit_in d) (edits_in ms)
+
+pub list_of-items_of : (ds : List Data) → list_of (items_of ds) ≡ ds
+list_of-items_of [] = refl
+list_of-items_of (d ∷ ds) = ap (λ rest. d ∷ rest) (list_of-items_of ds)
+
+-- a put, as it is read
+pub put_in : (d : Data) → edit_in (edit_data (put d)) ≡ put d
+put_in null = refl
+put_in (boolean b) = refl
+put_in (whole z) = refl
+put_in (text s) = refl
+put_in (list ds) = refl
+put_in (map ms) = refl
+
+-- each value is that of one operation at most
+abbrev mutual
+  pub edit_in-edit_data : (e : Edit) → edit_in (edit_data e) ≡ e
+  edit_in-edit_data (put d) = put_in d
+  edit_in-edit_data (patch es) = ap patch (edits_in-edits_data es)
+  edit_in-edit_data (append ds n) = ap (λ l. append l n) (list_of-items_of ds)
+  edit_in-edit_data delete = refl
+
+  pub edits_in-edits_data : (es : Edits) → edits_in (edits_data es) ≡ es
+  edits_in-edits_data no_edits = refl
+  edits_in-edits_data (edit_at k e es) = λ i. edit_at k (edit_in-edit_data e i) (edits_in-edits_data es i)
+
+abbrev pub coded_edit : Coded Edit
+coded_edit = code_by Data coded_data edit_data edit_in edit_in-edit_data
+
+abbrev pub coded_patch : Coded Patch
+coded_patch = coded_list (coded× (coded_list coded_ℕ) coded_edit)

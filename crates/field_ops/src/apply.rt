@@ -1,0 +1,129 @@
+//! What operations make of maps and records.
+ghost use Rattle.std.specs.Prelude.{◌≡◌, ◌++◌, IfOk, OnOk};
+ghost use Rattle.std.specs.Option.{option_copied};
+ghost use Rattle.rooms_val.specs.View.{data_of};
+ghost use Rattle.field_ops.specs.Entries.{added};
+ghost use Rattle.field_ops.specs.Edits.{edits_of};
+ghost use Rattle.field_ops.specs.View.{maybe_data, maybe_edit};
+ghost use Rattle.field_ops.specs.ViewChanges.{change_of};
+ghost use Rattle.field_ops.specs.Patched.{on_map, appended, patched, value_after, raw};
+
+use crate::object_diff::ObjectDiff;
+use crate::record_op::RecordOp;
+use crate::value_op::ValueOp;
+use crate::walk::take_least;
+use rooms_val::{Fields, Mem, Text, Val, Vals};
+use std::alloc::Global;
+
+/// The map under a patch: each key that the patch names is set to what its operation makes of its value. It takes time
+/// in proportion to both.
+#[cycle(apply)]
+pub fn apply_object(alloc: Global, map: &Fields, diff: &ObjectDiff) -> Mem<Fields>
+    ensures { IfOk result (λ f. f ≡ patched (edits_of diff.now) map.now) }
+{
+    let mut result = Fields::new(alloc);
+    let mut fields = map.as_slice();
+    let mut ops = diff.as_slice();
+    'keys: while let Some(next) = take_least(fields, ops) {
+        let val = edited(alloc, next.left, next.right)?;
+        keep(alloc, &mut result, next.key, val)?;
+        fields = next.lefts;
+        ops = next.rights;
+    }
+    Ok(result)
+}
+
+/// The record under an operation, or none where there is none after it. Where the patched record is no map it stays as
+/// it is.
+pub fn apply_record(alloc: Global, before: Option<&Val>, op: &RecordOp) -> Mem<Option<Val>>
+    ensures { IfOk result (λ r. maybe_data r ≡ raw (change_of op.now) (maybe_data (option_copied before.entry))) }
+{
+    match op {
+        RecordOp::Put(val) => Ok(Some(val.copy(alloc)?)),
+        RecordOp::Patch(diff) => match before {
+            Some(val) => Ok(Some(patched_val(alloc, val, diff)?)),
+            None => Ok(None),
+        },
+        RecordOp::Remove => Ok(None),
+    }
+}
+
+/// The value under a patch. What is no map stays as it is.
+#[cycle(apply)]
+pub(crate) fn patched_val(alloc: Global, val: &Val, diff: &ObjectDiff) -> Mem<Val>
+    ensures { IfOk result (λ v. data_of v ≡ on_map (λ f. patched (edits_of diff.now) f) (data_of val.now)) }
+{
+    match val {
+        Val::Map(fields) => Ok(Val::Map(apply_object(alloc, fields, diff)?)),
+        _ => Ok(val.copy(alloc)?),
+    }
+}
+
+// Puts what there is under a key.
+fn keep(alloc: Global, fields: &mut Fields, key: &Text, found: Option<Val>) -> Mem<()>
+    ensures { OnOk result (fields.new ≡ added fields.old key.now (maybe_data found)) }
+{
+    if let Some(val) = found {
+        fields.put(key.copy(alloc)?, val)?;
+    }
+    Ok(())
+}
+
+// What the value at a key becomes, where perhaps an operation names the key.
+#[cycle(apply)]
+fn edited(alloc: Global, old: Option<&Val>, named: Option<&ValueOp>) -> Mem<Option<Val>>
+    ensures { IfOk result (λ v. maybe_data v ≡ value_after (maybe_edit (option_copied named.entry)) (maybe_data (option_copied old.entry))) }
+{
+    let Some(op) = named else {
+        return copied(alloc, old);
+    };
+    match op {
+        ValueOp::Put(val) => Ok(Some(val.copy(alloc)?)),
+        ValueOp::Patch(diff) => match old {
+            Some(val) => Ok(Some(patched_val(alloc, val, diff)?)),
+            None => Ok(None),
+        },
+        ValueOp::Append(vals, offset) => match old {
+            Some(val) => Ok(Some(appended_val(alloc, val, vals, *offset)?)),
+            None => Ok(None),
+        },
+        ValueOp::Delete => Ok(None),
+    }
+}
+
+// An equal value, where there is one.
+fn copied(alloc: Global, old: Option<&Val>) -> Mem<Option<Val>>
+    ensures { IfOk result (λ v. maybe_data v ≡ maybe_data (option_copied old.entry)) }
+{
+    match old {
+        Some(val) => Ok(Some(val.copy(alloc)?)),
+        None => Ok(None),
+    }
+}
+
+// A list of the offset's length followed by the values. What is no such list stays as it is.
+fn appended_val(alloc: Global, val: &Val, vals: &Vals, offset: u32) -> Mem<Val>
+    ensures { IfOk result (λ v. data_of v ≡ appended vals.now offset (data_of val.now)) }
+{
+    match val {
+        Val::List(items) => {
+            if items.len() == offset as usize {
+                Ok(Val::List(followed(alloc, items, vals)?))
+            } else {
+                Ok(Val::List(items.copy(alloc)?))
+            }
+        }
+        _ => Ok(val.copy(alloc)?),
+    }
+}
+
+// One list followed by another.
+fn followed(alloc: Global, items: &Vals, more: &Vals) -> Mem<Vals>
+    ensures { IfOk result (λ l. l ≡ items.now ++ more.now) }
+{
+    let mut list = items.copy(alloc)?;
+    for val in more.as_slice() {
+        list.push(val.copy(alloc)?)?;
+    }
+    Ok(list)
+}

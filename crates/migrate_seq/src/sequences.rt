@@ -1,0 +1,138 @@
+//! Sequences of migrations that fit together.
+ghost use Rattle.std.specs.Prelude.{◌≡◌, IsTrue, IfOk};
+ghost use Rattle.std.specs.List.{list_all};
+ghost use Rattle.rooms_val.specs.Answers.{Gives};
+ghost use Rattle.rooms_val.specs.View.{data_of};
+ghost use Rattle.migrate_seq.specs.declared.fault.PlanFault.TheVariants as plan_fault;
+ghost use Rattle.migrate_seq.specs.declared.fault.SeqFault.TheVariants as seq_fault;
+ghost use Rattle.migrate_seq.specs.Builds.{built, have_rising_ids};
+ghost use Rattle.migrate_seq.specs.Steps.{can_scale};
+ghost use Rattle.migrate_seq.specs.Records.{raised_along, lowered_along};
+ghost use Rattle.migrate_seq.specs.Plans.{migration_at, migrations_at, is_acyclic, can_all_scale, plan_answer, IsPlan, newest_versions, are_both_ways, are_of_records};
+ghost use Rattle.migrate_seq.specs.Shown.{places_in, goes_both_ways, is_of_records};
+
+use crate::build::{all_places, bad_id, by_id, doubled, gap, ids_at, unknown};
+use crate::fault::{Ids, PlanFault, SeqFault};
+use crate::migration::{Migration, Sequence, migrate};
+use crate::order::{at, take_in_turn};
+use crate::place::Place;
+use crate::plan::{Plan, check, missing};
+use crate::serialized::Serialized;
+use crate::step::Way;
+use rooms_val::{Mem, Val};
+use std::alloc::Global;
+
+/// Sequences in the order of their ids, of which every migration can be run in turn.
+#[derive(Drop)]
+pub struct Sequences {
+    sequences: Vec<Sequence>,
+    ghost acyclic: { IsTrue (is_acyclic sequences.items) },
+    ghost scaled: { IsTrue (can_all_scale sequences.items) },
+}
+
+impl Sequences {
+    ghost use Rattle.std.specs.Prelude.{option_map, IfSome, List};
+    ghost use Rattle.migrate_seq.specs.SequencesOf.{sequences_of};
+
+    /// The sequences of a list, in the order of their ids. It is refused exactly where one of the causes of `SeqFault`
+    /// applies. The factor of each `Scale` is at least 2.
+    pub fn build(alloc: Global, list: Vec<Sequence>) -> Result<Sequences, SeqFault>
+        requires { IsTrue (can_all_scale list.items) }
+        ensures answer { Gives seq_fault.OutOfMemory sequences_of result (built list.items) }
+        ensures rising { IfOk result (λ s. IsTrue (have_rising_ids (sequences_of s))) }
+    {
+        if let Some(id) = gap(&list) {
+            let id = id.copy(alloc)?;
+            return Err(SeqFault::Gap(id));
+        }
+        if let Some(id) = bad_id(&list) {
+            let id = id.copy(alloc)?;
+            return Err(SeqFault::BadId(id));
+        }
+        if let Some(id) = doubled(&list) {
+            let id = id.copy(alloc)?;
+            return Err(SeqFault::Doubled(id));
+        }
+        if let Some(id) = unknown(&list) {
+            let id = id.copy(alloc)?;
+            return Err(SeqFault::UnknownDependency(id));
+        }
+        let sequences = by_id(alloc, list)?;
+        let places = all_places(alloc, &sequences)?;
+        let order = take_in_turn(alloc, &sequences, places)?;
+        if !order.left.is_empty() {
+            let ids = ids_at(alloc, &sequences, &order.left)?;
+            return Err(SeqFault::Cycle(Ids::new(ids)));
+        }
+        Ok(Sequences { sequences })
+    }
+
+    /// The plan of the migrations that somebody misses, who holds these versions. At each place stands the least free
+    /// one, by the id of its sequence and its version, of those from there on.
+    pub fn since(&self, alloc: Global, held: &Serialized) -> Result<Plan, PlanFault>
+        ensures plan { Gives plan_fault.OutOfMemory places_in result (plan_answer (sequences_of self.now) held.now) }
+        ensures order { IfOk result (λ p. IsPlan (sequences_of self.now) held.now (places_in p)) }
+        ensures only { IfOk result (λ p. (other : List Place) → IsPlan (sequences_of self.now) held.now other → other ≡ places_in p) }
+        ensures both_ways { IfOk result (λ p. goes_both_ways p ≡ are_both_ways (migrations_at (sequences_of self.now) (places_in p))) }
+        ensures records_only { IfOk result (λ p. is_of_records p ≡ are_of_records (migrations_at (sequences_of self.now) (places_in p))) }
+    {
+        let sequences = self.sequences.as_slice();
+        check(alloc, sequences, held)?;
+        let missing = missing(alloc, sequences, held)?;
+        let order = take_in_turn(alloc, sequences, missing)?;
+        Ok(Plan::new(sequences, order.taken))
+    }
+
+    /// A record after the migrations of a plan, in their order.
+    pub fn up(&self, alloc: Global, plan: &Plan, record_: &Val) -> Mem<Val>
+        requires { IsTrue (is_of_records plan.now) }
+        ensures { IfOk result (λ v. data_of v ≡ raised_along (migrations_at (sequences_of self.now) (places_in plan.now)) (data_of record_.now)) }
+    {
+        let mut after = record_.copy(alloc)?;
+        for place in plan.places() {
+            if let Some(migration) = self.at(*place) {
+                after = migrate(alloc, migration, Way::Up, after)?;
+            }
+        }
+        Ok(after)
+    }
+
+    /// A record after the migrations of a plan are run down, the last one first.
+    pub fn down(&self, alloc: Global, plan: &Plan, record_: &Val) -> Mem<Val>
+        requires { IsTrue (goes_both_ways plan.now) }
+        ensures { IfOk result (λ v. data_of v ≡ lowered_along (migrations_at (sequences_of self.now) (places_in plan.now)) (data_of record_.now)) }
+    {
+        let places = plan.places();
+        let mut after = record_.copy(alloc)?;
+        let mut left = places.len();
+        'places: while 0 < left {
+            left -= 1;
+            if let Some(migration) = self.at(places[left]) {
+                after = migrate(alloc, migration, Way::Down, after)?;
+            }
+        }
+        Ok(after)
+    }
+
+    /// The newest version of each of the sequences that has migrations.
+    pub fn serialized(&self, alloc: Global) -> Mem<Serialized>
+        ensures { IfOk result (λ s. s ≡ newest_versions (sequences_of self.now)) }
+    {
+        let mut versions = Serialized::new(alloc);
+        for sequence in &self.sequences {
+            if !sequence.migrations.is_empty() {
+                let newest = sequence.migrations.len() as u64;
+                versions.put(sequence.id.copy(alloc)?, newest)?;
+            }
+        }
+        Ok(versions)
+    }
+
+    // The migration at a place.
+    fn at(&self, place: Place) -> Option<&Migration>
+        ensures found { option_map (λ m. m.now) result ≡ migration_at (sequences_of self.now) place }
+        ensures scales { IfSome result (λ m. IsTrue (list_all can_scale m.now.steps.items)) }
+    {
+        at(&self.sequences, place)
+    }
+}

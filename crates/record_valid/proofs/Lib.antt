@@ -1,0 +1,4 @@
+pub mod ForRoomsVal
+pub mod Passes
+pub mod Faults
+pub mod Law

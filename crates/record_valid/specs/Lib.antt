@@ -1,0 +1,8 @@
+pub mod Tree
+pub mod Code
+pub mod View
+pub mod Falls
+pub mod Ids
+pub mod Parts
+pub mod Fits
+pub mod Faults

@@ -1,0 +1,114 @@
+//! Texts with a check for each.
+ghost use Rattle.std.specs.Prelude.{◌≡◌, [], IfOk, None};
+ghost use Rattle.std.specs.Result.{result_err};
+ghost use Rattle.std.specs.Option.{option_copied};
+
+use crate::keys::{check_keys, place_of};
+use crate::kinds::Check;
+use crate::plain::type_text;
+use crate::reject::{Reject, RejectKind, at};
+use rooms_val::{Mem, Text, Val};
+use std::alloc::Global;
+use std::marker::Model;
+use std::mem;
+
+/// A table from texts to checks. Contracts see its pairs, whose texts rise by bytes.
+#[cycle(check)]
+#[derive(Drop)]
+pub struct Checks {
+    entries: Vec<(Text, Check)>,
+}
+
+impl Model for Checks {
+    ghost use Rattle.std.specs.Prelude.{suc, T};
+    ghost use Rattle.std.specs.Ordering.{nat_cmp};
+    ghost use Rattle.std.specs.Cmp.Lexicographic.{slice_cmp};
+    ghost use Rattle.std.specs.FinMap.Entries.{is_sorted};
+    ghost use Rattle.record_valid.specs.Tree.{Table, rows_of, rows_depth};
+    ghost use Rattle.record_valid.specs.Code.{coded_table};
+
+    ghost Value = { Table };
+
+    ghost coded = { coded_table };
+
+    ghost use Rattle.record_valid.specs.View.{table_view};
+
+    ghost view = { λ c. table_view c.entries.items };
+
+    ghost invariant = { λ c. T (is_sorted (slice_cmp nat_cmp) c.entries.items) };
+
+    ghost size = { λ es. suc (rows_depth (rows_of es)) };
+
+    ghost use Rattle.record_valid.specs.Falls.{rows_fall};
+
+    ghost size_decreases = { λ c h. rows_fall c.entries.items };
+}
+
+impl Checks {
+    ghost use Rattle.rooms_val.specs.View.{data_of};
+    ghost use Rattle.record_valid.specs.Tree.{object, by_type, put, rows_of};
+    ghost use Rattle.record_valid.specs.View.{tree_of};
+    ghost use Rattle.record_valid.specs.Faults.{first_fault, row_fault};
+
+    /// The empty table.
+    pub fn new(alloc: Global) -> Checks
+        ensures { result ≡ [] }
+    {
+        Checks {
+            entries: Vec::new(alloc),
+        }
+    }
+
+    /// The table with a check under the text, in place of the one before.
+    pub fn with(self, alloc: Global, text: &str, check: Check) -> Mem<Checks>
+        ensures { IfOk result (λ c. c ≡ put self text.now (tree_of check)) }
+    {
+        let mut entries = self.entries;
+        match place_of(&entries, text) {
+            Ok(place) => {
+                drop(mem::replace(&mut entries[place].1, check));
+                Ok(Checks { entries })
+            }
+            Err(place) => {
+                entries.insert(place, (Text::of(alloc, text)?, check))?;
+                Ok(Checks { entries })
+            }
+        }
+    }
+
+    /// The first fault of a map that is to have exactly these keys, each with a value that fits.
+    #[cycle(valid)]
+    pub(crate) fn check_object(&self, val: &Val, depth: u32) -> Result<(), Reject>
+        ensures { result_err result ≡ first_fault depth None (object (rows_of self.now)) (data_of val.now) }
+    {
+        let Val::Map(map) = val else {
+            return at(depth, Err(RejectKind::WrongKind));
+        };
+        let inside = depth.saturating_add(1);
+        let entries = map.as_slice();
+        at(inside, check_keys(&self.entries, entries))?;
+        let kind = type_text(map);
+        for ((_, check), (_, field)) in self.entries.iter().zip(entries) {
+            check.check_value(field, inside, kind)?;
+        }
+        Ok(())
+    }
+
+    /// The first fault of a value by the check that stands under the text.
+    #[cycle(valid)]
+    pub(crate) fn check_row(&self, val: &Val, depth: u32, kind: Option<&str>) -> Result<(), Reject>
+        ensures { result_err result ≡ row_fault depth (option_copied kind.entry) (rows_of self.now) (data_of val.now) }
+    {
+        let unlisted = Reject {
+            depth,
+            kind: RejectKind::NotListed,
+        };
+        let Some(text) = kind else {
+            return Err(unlisted);
+        };
+        match place_of(&self.entries, text) {
+            Ok(place) => self.entries[place].1.check_value(val, depth, kind),
+            Err(_) => Err(unlisted),
+        }
+    }
+}
