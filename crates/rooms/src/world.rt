@@ -39,7 +39,7 @@ impl World {
         }
     }
 
-    /// Lets an event happen. A refused one changes nothing.
+    /// Lets an event happen.
     pub fn step(&mut self, alloc: Global, event: Event) -> Mem<Reply>
         ensures { IfOk result (λ reply. Answers (happened self.old.clients.items event) reply (Some self.new.clients.items)) }
     {
