@@ -5,12 +5,12 @@ use std::process::Abort;
 use std::test::Fail;
 
 /// The value of a text that is one.
-fn value(alloc: Global, text: &str) -> Result<Val, Fail> {
+pub(crate) fn value(alloc: Global, text: &str) -> Result<Val, Fail> {
     Ok(Val::read(alloc, text.as_bytes())?)
 }
 
 /// The compact text of a value.
-fn printed(alloc: Global, val: &Val) -> Result<String, Fail> {
+pub(crate) fn printed(alloc: Global, val: &Val) -> Result<String, Fail> {
     Ok(String::from_utf8(val.print(alloc)?)?)
 }
 

@@ -1,13 +1,23 @@
 //! Tests of calls of the lower crates, as tables. The crate has no code of its own.
 //!
 //! The answers that a table wants are written from the rules in words and from RFC 8259, never taken from what the
-//! program writes. `values` asks what bytes are read as, `calls` what the calls on values, lists and maps answer, and
-//! `keys` which texts are index keys. It stands on `rooms_val` and `index_keys`.
+//! program writes. `values` asks what bytes are read as, `calls` what the calls on values, lists and maps answer,
+//! `keys` which texts are index keys, and `checks` what is wrong with a value by a check. `operations` asks what
+//! operations make of records and what undoes them, `migrations` what steps make of records, and `plans` which sequences of
+//! migrations fit together and in which order they are run. It stands on the crates of values and of records.
 #![tactic(auto)]
 
 #[cfg(test)]
 mod calls;
 #[cfg(test)]
+mod checks;
+#[cfg(test)]
 mod keys;
+#[cfg(test)]
+mod migrations;
+#[cfg(test)]
+mod operations;
+#[cfg(test)]
+mod plans;
 #[cfg(test)]
 mod values;
