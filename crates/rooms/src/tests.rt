@@ -87,15 +87,17 @@ fn lines(alloc: Global, all: &[&str]) -> Result<String, Fail> {
 #[test]
 fn replays_recordings(rt: HostRuntime) -> Result<(), Fail> {
     let alloc = rt.alloc();
-    let put = r#"{"client":0,"diff":{"page:p":["put",{"name":"P","id":"page:p"}]},"do":"edit"}"#;
+    let put =
+        r#"{"client":0,"diff":{"page:p":["put",{"id":"page:p","index":"a0","meta":{},"name":"P","typeName":"page"}]},"do":"edit"}"#;
     let put_again =
         r#"{"do":"edit","diff":{"page:p":["put",{"id":"page:p"}],"a":["put",{"id":"a"}]},"client":0}"#;
     let shown =
-        r#"{"clock":-1,"doc":{"page:p":{"id":"page:p","name":"P"}},"others":{},"owed":1,"show":0}"#;
+        r#"{"clock":-1,"doc":{"page:p":{"id":"page:p","index":"a0","meta":{},"name":"P","typeName":"page"}},"others":{},"owed":1,"show":0}"#;
     let shown_again =
         r#"{"clock":-1,"doc":{"a":{"id":"a"},"page:p":{"id":"page:p"}},"others":{},"owed":2,"show":0}"#;
-    let cases: [(&[&str], &[&str], u8); 12] = [
+    let cases: [(&[&str], &[&str], u8); 13] = [
         (&[HEADER, CLIENT, SHOW, END], &[SHOWN_EMPTY, ENDED], 0),
+        (&[HEADER, CLIENT, put, SHOW, END], &[shown, ENDED], 0),
         (
             &[HEADER, CLIENT, put, SHOW, put_again, SHOW, END],
             &[shown, shown_again, ENDED],
