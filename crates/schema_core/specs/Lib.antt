@@ -1,0 +1,5 @@
+pub mod Tree
+pub mod View
+pub mod Admits
+pub mod Builds
+pub mod SchemaOf

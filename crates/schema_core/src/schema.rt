@@ -1,0 +1,125 @@
+//! Which records are admitted.
+ghost use Rattle.std.specs.Prelude.{◌≡◌, ◌↔◌, IsOk, IsTrue, option_map};
+ghost use Rattle.std.specs.Ordering.{nat_cmp};
+ghost use Rattle.std.specs.Cmp.Lexicographic.{slice_cmp};
+ghost use Rattle.std.specs.FinMap.Entries.{is_sorted};
+ghost use Rattle.rooms_val.specs.Answers.{Gives};
+ghost use Rattle.rooms_val.specs.Maps.{field};
+ghost use Rattle.rooms_val.specs.View.{data_of};
+ghost use Rattle.migrate_seq.specs.SequencesOf.{sequences_of};
+ghost use Rattle.migrate_seq.specs.Records.{has_text};
+ghost use Rattle.schema_core.specs.Admits.{own_type};
+ghost use Rattle.schema_core.specs.declared.fault.SchemaFault.TheVariants as schema_fault;
+
+use crate::fault::{RecordFault, SchemaFault};
+use crate::names::{by_name, place_of};
+use crate::row::{RecordType, Scope, TypeRow};
+use migrate_seq::Sequences;
+use record_valid::id_type;
+use record_valid::valid::check;
+use rooms_val::{Text, Val};
+use std::alloc::Global;
+
+/// The greatest weight of a record that is admitted.
+const GREATEST_WEIGHT: u64 = 32_768;
+
+/// The types of the records of a document, and the migrations that lead to them.
+#[derive(Drop)]
+pub struct Schema {
+    types: Vec<(Text, RecordType)>,
+    sequences: Sequences,
+    ghost rising: { IsTrue (is_sorted (slice_cmp nat_cmp) types.items) },
+}
+
+impl Schema {
+    ghost use Rattle.schema_core.specs.Admits.{IsAdmitted, admission, scope_of, type_named};
+    ghost use Rattle.schema_core.specs.Builds.{built};
+    ghost use Rattle.schema_core.specs.SchemaOf.{schema_tree};
+    ghost use Rattle.schema_core.specs.View.{rows_view, type_tree};
+
+    /// The schema of these types and sequences. `DoubledType` with the first name that stood before, exactly where one did,
+    /// or `OutOfMemory`.
+    pub fn build(
+        alloc: Global,
+        types: Vec<TypeRow>,
+        sequences: Sequences,
+    ) -> Result<Schema, SchemaFault>
+        ensures { Gives schema_fault.OutOfMemory schema_tree result (built (rows_view types.items) (sequences_of sequences)) }
+    {
+        let types = by_name(alloc, types)?;
+        Ok(Schema { types, sequences })
+    }
+
+    /// The scope of a record that is admitted under an id, or the first of the causes of `RecordFault` that applies. The
+    /// call takes no memory, and costs a fixed number of passes over the record.
+    pub fn admits(&self, id: &str, record_: &Val) -> Result<Scope, RecordFault>
+        ensures answer { result ≡ admission (schema_tree self.now) id.now (data_of record_.now) }
+        ensures admitted { IsOk result ↔ IsAdmitted (schema_tree self.now) id.now (data_of record_.now) }
+    {
+        let Some(name) = own_type(id, record_) else {
+            return Err(RecordFault::BadId);
+        };
+        let Some(found) = self.type_named(name) else {
+            return Err(RecordFault::UnknownType);
+        };
+        if let Err(reject) = check(&found.check, record_) {
+            return Err(RecordFault::Rejected(reject));
+        }
+        if record_.weight() > GREATEST_WEIGHT {
+            return Err(RecordFault::TooHeavy);
+        }
+        Ok(found.scope)
+    }
+
+    /// The scope of the records under an id. `None` exactly where the text is no id of a type that the schema has. It takes
+    /// no memory, and costs a logarithm of the number of types.
+    pub fn scope_of(&self, id: &str) -> Option<Scope>
+        ensures { result ≡ scope_of (schema_tree self.now) id.now }
+    {
+        let name = id_type(id)?;
+        let found = self.type_named(name)?;
+        Some(found.scope)
+    }
+
+    /// The sequences of migrations.
+    pub fn sequences(&self) -> &Sequences
+        ensures { sequences_of result.now ≡ (schema_tree self.now).sequences }
+    {
+        &self.sequences
+    }
+
+    // The type that has the name.
+    fn type_named(&self, name: &str) -> Option<&RecordType>
+        ensures { option_map (λ t. type_tree t.now) result ≡ type_named (schema_tree self.now).types name.now }
+    {
+        match place_of(&self.types, name) {
+            Ok(place) => Some(&self.types[place].1),
+            Err(_) => None,
+        }
+    }
+}
+
+// The name that the id begins with, where the record has the id and that name as its own.
+fn own_type<'a>(id: &'a str, record_: &Val) -> Option<&'a str>
+    ensures { option_map (λ name. name.now) result ≡ own_type id.now (data_of record_.now) }
+{
+    let name = id_type(id)?;
+    if has_text(record_, "id", id) && has_text(record_, "typeName", name) {
+        Some(name)
+    } else {
+        None
+    }
+}
+
+// Whether the record has the text under the key.
+fn has_text(record_: &Val, key: &str, text: &str) -> bool
+    ensures { result ≡ has_text text.now (field (data_of record_.now) key.now) }
+{
+    match record_.get(key) {
+        Some(val) => match val {
+            Val::Text(found) => found.as_str() == text,
+            _ => false,
+        },
+        None => false,
+    }
+}
