@@ -1,0 +1,7 @@
+pub mod Fields
+pub mod Parts
+pub mod Shapes
+pub mod Types
+pub mod Trees
+pub mod Migrations
+pub mod Tables

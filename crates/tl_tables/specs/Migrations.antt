@@ -1,0 +1,65 @@
+-- The migrations, in sequences.
+use Rattle.std.specs.Prelude.{ℕ, nat_le, List, [], ◌∷◌, true, false, map, filter, codes}
+use Rattle.rooms_val.specs.Data.{text}
+use Rattle.migrate_seq.specs.declared.migration.Filter.TheVariants.{All, Type_, Kind}
+use Rattle.migrate_seq.specs.declared.migration.MigScope.TheVariants.{Record}
+use Rattle.tl_tables.specs.Trees.{MigrationTree, SequenceTree, add, rename, map_enum, scale, nest}
+
+unfoldable pub base_1 : MigrationTree
+base_1 = record { id = codes "rooms.base/1"; scope = Record; filter = All; steps = []; has_down = false; depends = [] }
+
+unfoldable pub shape_1 : MigrationTree
+shape_1 = record {
+  id = codes "rooms.shape/1";
+  scope = Record;
+  filter = Type_ (codes "shape");
+  steps = rename [] (codes "alpha") (codes "opacity") ∷ scale [] (codes "opacity") 10 ∷ [];
+  has_down = true;
+  depends = [];
+}
+
+unfoldable pub shape_2 : MigrationTree
+shape_2 = record {
+  id = codes "rooms.shape/2";
+  scope = Record;
+  filter = Kind (codes "shape") (codes "geo");
+  steps = add (codes "props" ∷ []) (codes "dash") (text (codes "draw"))
+      ∷ map_enum (codes "props" ∷ []) (codes "geo") ((codes "oval", codes "ellipse") ∷ [])
+      ∷ [];
+  has_down = true;
+  depends = [];
+}
+
+unfoldable pub binding_1 : MigrationTree
+binding_1 = record {
+  id = codes "rooms.binding/1";
+  scope = Record;
+  filter = Type_ (codes "binding");
+  steps = nest (codes "props" ∷ []) (codes "anchorX" ∷ codes "anchorY" ∷ []) (codes "anchor")
+      ∷ rename (codes "props" ∷ codes "anchor" ∷ []) (codes "anchorX") (codes "x")
+      ∷ rename (codes "props" ∷ codes "anchor" ∷ []) (codes "anchorY") (codes "y")
+      ∷ [];
+  has_down = true;
+  depends = codes "rooms.shape/2" ∷ [];
+}
+
+-- those of some migrations that are there at a version, each given with the first version that has it
+abbrev pub present : ℕ → List (ℕ × MigrationTree) → List MigrationTree
+present version migrations = map (λ m. m.1) (filter (λ m. nat_le m.0 version) migrations)
+
+-- a retroactive sequence of those migrations
+unfoldable pub sequence_at : ℕ → List ℕ → List (ℕ × MigrationTree) → SequenceTree
+sequence_at version id migrations = record { id = id; retroactive = true; migrations = present version migrations }
+
+unfoldable pub base : ℕ → SequenceTree
+base version = sequence_at version (codes "rooms.base") ((1, base_1) ∷ [])
+
+unfoldable pub binding : ℕ → SequenceTree
+binding version = sequence_at version (codes "rooms.binding") ((3, binding_1) ∷ [])
+
+unfoldable pub shape : ℕ → SequenceTree
+shape version = sequence_at version (codes "rooms.shape") ((2, shape_1) ∷ (3, shape_2) ∷ [])
+
+-- the sequences at a version, in the order of their ids
+unfoldable pub sequences : ℕ → List SequenceTree
+sequences version = base version ∷ binding version ∷ shape version ∷ []

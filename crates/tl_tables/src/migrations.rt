@@ -1,0 +1,166 @@
+//! The migrations, in sequences.
+ghost use Rattle.std.specs.Prelude.{◌≡◌, ◌↔◌, IsTrue, IfOk, map};
+ghost use Rattle.migrate_seq.specs.SequencesOf.{sequences_of};
+ghost use Rattle.migrate_seq.specs.declared.fault.SeqFault.TheVariants as seq_fault;
+ghost use Rattle.tl_tables.specs.Trees.{migration_tree, sequence_tree};
+ghost use Rattle.tl_tables.specs.Migrations as rows;
+
+use crate::listed::{add, map_enum, nest, rename, scale, texts};
+use migrate_seq::{Filter, MigScope, Migration, SeqFault, Sequence, Sequences};
+use rooms_val::{Mem, OutOfMemory, Text};
+use std::alloc::Global;
+
+/// The sequences at a version.
+#[tactic(auto, unfolding(crate::specs::Migrations::sequences))]
+pub(crate) fn sequences(alloc: Global, version: u32) -> Mem<Sequences>
+    ensures { IfOk result (λ s. map sequence_tree (sequences_of s) ≡ rows.sequences version) }
+{
+    let list = vec![in alloc;
+        base(alloc, version)?,
+        binding(alloc, version)?,
+        shape(alloc, version)?,
+    ]?;
+    match Sequences::build(alloc, list) {
+        Ok(sequences) => Ok(sequences),
+        Err(fault) => {
+            // The tables fit together, so that nothing else is refused.
+            let out_of_memory = is_out_of_memory(&fault);
+            prove!(out_of_memory);
+            Err(OutOfMemory)
+        }
+    }
+}
+
+fn is_out_of_memory(fault: &SeqFault) -> bool
+    ensures { IsTrue result ↔ (fault.now ≡ seq_fault.OutOfMemory) }
+{
+    matches!(fault, SeqFault::OutOfMemory)
+}
+
+/// A retroactive sequence with those of some migrations that are there at a version, each given with the first one.
+#[tactic(auto, unfolding(crate::specs::Migrations::sequence_at))]
+fn sequence_at(
+    alloc: Global,
+    version: u32,
+    id: &str,
+    migrations: Vec<(u32, Migration)>,
+) -> Mem<Sequence>
+    ensures { IfOk result (λ s. sequence_tree s ≡ rows.sequence_at version id.now (map (λ m. (m.0, migration_tree m.1)) migrations.items)) }
+{
+    let mut kept = Vec::new(alloc);
+    'rows: for (first, migration) in migrations {
+        if first <= version {
+            kept.push(migration)?;
+        }
+    }
+    Ok(Sequence {
+        id: Text::of(alloc, id)?,
+        retroactive: true,
+        migrations: kept,
+    })
+}
+
+#[tactic(auto, unfolding(crate::specs::Migrations::base))]
+fn base(alloc: Global, version: u32) -> Mem<Sequence>
+    ensures { IfOk result (λ s. sequence_tree s ≡ rows.base version) }
+{
+    sequence_at(
+        alloc,
+        version,
+        "rooms.base",
+        vec![in alloc; (1, base_1(alloc)?)]?,
+    )
+}
+
+#[tactic(auto, unfolding(crate::specs::Migrations::binding))]
+fn binding(alloc: Global, version: u32) -> Mem<Sequence>
+    ensures { IfOk result (λ s. sequence_tree s ≡ rows.binding version) }
+{
+    sequence_at(
+        alloc,
+        version,
+        "rooms.binding",
+        vec![in alloc; (3, binding_1(alloc)?)]?,
+    )
+}
+
+#[tactic(auto, unfolding(crate::specs::Migrations::shape))]
+fn shape(alloc: Global, version: u32) -> Mem<Sequence>
+    ensures { IfOk result (λ s. sequence_tree s ≡ rows.shape version) }
+{
+    sequence_at(
+        alloc,
+        version,
+        "rooms.shape",
+        vec![in alloc; (2, shape_1(alloc)?), (3, shape_2(alloc)?)]?,
+    )
+}
+
+#[tactic(auto, unfolding(crate::specs::Migrations::base_1))]
+fn base_1(alloc: Global) -> Mem<Migration>
+    ensures { IfOk result (λ m. migration_tree m ≡ rows.base_1) }
+{
+    Ok(Migration {
+        id: Text::of(alloc, "rooms.base/1")?,
+        scope: MigScope::Record,
+        filter: Filter::All,
+        steps: Vec::new(alloc),
+        has_down: false,
+        depends: Vec::new(alloc),
+    })
+}
+
+/// Opacity was in tenths.
+#[tactic(auto, unfolding(crate::specs::Migrations::shape_1))]
+fn shape_1(alloc: Global) -> Mem<Migration>
+    ensures { IfOk result (λ m. migration_tree m ≡ rows.shape_1) }
+{
+    Ok(Migration {
+        id: Text::of(alloc, "rooms.shape/1")?,
+        scope: MigScope::Record,
+        filter: Filter::Type_(Text::of(alloc, "shape")?),
+        steps: vec![in alloc;
+            rename(alloc, &[], "alpha", "opacity")?,
+            scale(alloc, &[], "opacity", 10)?,
+        ]?,
+        has_down: true,
+        depends: Vec::new(alloc),
+    })
+}
+
+/// Outlines had no dashes, and an ellipse had another name.
+#[tactic(auto, unfolding(crate::specs::Migrations::shape_2))]
+fn shape_2(alloc: Global) -> Mem<Migration>
+    ensures { IfOk result (λ m. migration_tree m ≡ rows.shape_2) }
+{
+    Ok(Migration {
+        id: Text::of(alloc, "rooms.shape/2")?,
+        scope: MigScope::Record,
+        filter: Filter::Kind(Text::of(alloc, "shape")?, Text::of(alloc, "geo")?),
+        steps: vec![in alloc;
+            add(alloc, &["props"], "dash", "draw")?,
+            map_enum(alloc, &["props"], "geo", "oval", "ellipse")?,
+        ]?,
+        has_down: true,
+        depends: Vec::new(alloc),
+    })
+}
+
+/// The place where an arrow ends stood beside the other properties.
+#[tactic(auto, unfolding(crate::specs::Migrations::binding_1))]
+fn binding_1(alloc: Global) -> Mem<Migration>
+    ensures { IfOk result (λ m. migration_tree m ≡ rows.binding_1) }
+{
+    Ok(Migration {
+        id: Text::of(alloc, "rooms.binding/1")?,
+        scope: MigScope::Record,
+        filter: Filter::Type_(Text::of(alloc, "binding")?),
+        steps: vec![in alloc;
+            nest(alloc, &["props"], &["anchorX", "anchorY"], "anchor")?,
+            rename(alloc, &["props", "anchor"], "anchorX", "x")?,
+            rename(alloc, &["props", "anchor"], "anchorY", "y")?,
+        ]?,
+        has_down: true,
+        depends: texts(alloc, &["rooms.shape/2"])?,
+    })
+}
