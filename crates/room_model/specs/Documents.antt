@@ -1,6 +1,5 @@
--- What edits may do to a document, and what they make of it, under a rule of which records are admitted under which ids.
-use Rattle.std.specs.Prelude.{ℕ, List, [], ◌∷◌, Bool, true, false, if◌then◌else◌, is_some}
-use Rattle.std.specs.List.{list_all}
+-- What diffs make of a document, under a rule of which records are admitted under which ids.
+use Rattle.std.specs.Prelude.{ℕ, List, [], ◌∷◌, Bool, true, false, if◌then◌else◌, Option, is_some}
 use Rattle.std.specs.Option.{option_map_or}
 use Rattle.rooms_val.specs.Data.{Data, Pairs}
 use Rattle.rooms_val.specs.Maps.{get}
@@ -9,15 +8,15 @@ use Rattle.field_ops.specs.Entries.{set_at}
 use Rattle.field_ops.specs.Patched.{raw}
 
 module _ (admits : List ℕ → Data → Bool) where
-  -- what an operation leaves under an id is there and admitted
-  abbrev pub leaves_admitted : Pairs → List ℕ → Change → Bool
-  leaves_admitted document id c = option_map_or (admits id) (raw c (get document id)) false
+  -- an operation acts on the record, or the lack of one, that stands under an id: a put always, a remove on a record, a
+  -- patch where it leaves an admitted record
+  abbrev pub acts_on : List ℕ → Change → Option Data → Bool
+  acts_on id (put d) r = true
+  acts_on id remove r = is_some r
+  acts_on id (patch p) r = option_map_or (admits id) (raw (patch p) r) false
 
-  -- an operation acts: a put always, a remove where the record is there, a patch where it leaves an admitted record
   abbrev pub acts : Pairs → List ℕ → Change → Bool
-  acts document id (put d) = true
-  acts document id remove = is_some (get document id)
-  acts document id (patch p) = leaves_admitted document id (patch p)
+  acts document id c = acts_on id c (get document id)
 
   -- the document with what an operation makes of its record, where it acts
   abbrev pub stepped : Pairs → List ℕ → Change → Pairs
@@ -32,13 +31,3 @@ module _ (admits : List ℕ → Data → Bool) where
   abbrev pub replayed : Pairs → List Changes → Pairs
   replayed document [] = document
   replayed document (diff ∷ diffs) = replayed (step document diff) diffs
-
-  -- a client may do an operation where it leaves an admitted record, or removes one that is there
-  abbrev pub may_do : Pairs → List ℕ → Change → Bool
-  may_do document id (put d) = admits id d
-  may_do document id remove = is_some (get document id)
-  may_do document id (patch p) = leaves_admitted document id (patch p)
-
-  -- a client may do each operation of a diff
-  abbrev pub may_edit : Pairs → Changes → Bool
-  may_edit document diff = list_all (λ c. may_do document c.0 c.1) diff

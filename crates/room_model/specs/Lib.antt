@@ -1,2 +1,9 @@
 pub mod Documents
 pub mod Readings
+pub mod Histories
+pub mod Accepting
+pub mod Messages
+pub mod Rooms
+pub mod Worlds
+pub mod Codes
+pub mod Inverses
