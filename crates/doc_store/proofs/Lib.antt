@@ -1,0 +1,5 @@
+pub mod SlotLaws
+pub mod Trees
+pub mod Ids
+pub mod Journals
+pub mod Applied

@@ -1,0 +1,23 @@
+use Rattle.std.proofs.Common.{Some, ap, sym, ◌∙◌}
+use Rattle.rooms_val.specs.View.{data_of}
+use Rattle.field_ops.specs.Entries.{value_at, set_at}
+use Rattle.field_ops.specs.View.{maybe_data}
+use Rattle.doc_store.specs.Slots.{held, present}
+use Rattle.doc_store.proofs.SlotLaws.{get-present, present-with_key, present-without_key}
+use Rattle.doc_store.proofs.journal.write_plain.Goals as goal
+
+pub returns-in_ok-put-in-Some-clause-old : goal.returns-in_ok-put-in-Some-clause-old
+returns-in_ok-put-in-Some-clause-old c =
+    c.held.ensures ∙ ap held (c.in_ok-put-in-Some.ensures.old ∙ ap (value_at c.args.slots.now) c.in_ok-from_str-in-Some.ensures.ok) ∙ sym (get-present c.args.slots.now c.args.id.now)
+
+pub returns-in_ok-put-in-Some-clause-ok : goal.returns-in_ok-put-in-Some-clause-ok
+returns-in_ok-put-in-Some-clause-ok c =
+    ap present c.in_ok-put-in-Some.ensures.ok ∙ present-with_key c.args.slots.now _ (Some (data_of c.in-Some.val))
+    ∙ (λ i. set_at (present c.args.slots.now) (c.in_ok-from_str-in-Some.ensures.ok i) (maybe_data (sym c.in-Some.is i)))
+
+pub returns-in-None-clause-old : goal.returns-in-None-clause-old
+returns-in-None-clause-old c = c.held-in-None.ensures ∙ ap held c.take.ensures.old ∙ sym (get-present c.args.slots.now c.args.id.now)
+
+pub returns-in-None-clause-ok : goal.returns-in-None-clause-ok
+returns-in-None-clause-ok c =
+    ap present c.take.ensures.rest ∙ present-without_key c.args.slots.now c.args.id.now ∙ ap (λ r. set_at (present c.args.slots.now) c.args.id.now (maybe_data r)) (sym c.in-None.is)

@@ -1,0 +1,5 @@
+pub mod Begun
+pub mod Slots
+pub mod Tree
+pub mod Journal
+pub mod Kept

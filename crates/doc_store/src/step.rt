@@ -1,0 +1,152 @@
+//! Diffs that are applied to a store.
+ghost use Rattle.std.specs.Prelude.{◌≡◌, ◌+◌, ◌≤◌, ◌↔◌, length, IfOk, OnOk, OnErr};
+ghost use Rattle.std.specs.Option.{option_copied};
+ghost use Rattle.field_ops.specs.Entries.{added};
+ghost use Rattle.field_ops.specs.View.{maybe_data};
+ghost use Rattle.field_ops.specs.ViewChanges.{change_of, maybe_change};
+ghost use Rattle.field_ops.specs.Patched.{raw};
+ghost use Rattle.schema_core.specs.Admits.{is_admitted};
+ghost use Rattle.schema_core.specs.SchemaOf.{schema_tree};
+ghost use Rattle.room_model.specs.Documents.{acts_on, step, stepped};
+ghost use Rattle.room_model.specs.Inverses.{inverse_diff, undoing, ArePatchedAdmitted};
+
+use crate::fault::TxnFault;
+use crate::store::DocStore;
+use field_ops::{Diff, RecordOp, apply_record, inverse};
+use rooms_val::{Mem, Steps, Text, Val};
+use schema_core::Schema;
+use std::alloc::Global;
+use std::sync::ledger::Ledger;
+
+/// Applies a diff: a put acts always, a remove where the record is there, and a patch where it leaves a record that the
+/// schema admits. Answers the diff that undoes what acted. It counts at most a step for each operation. `TooNested` exactly
+/// where 16 transactions are open, or `OutOfMemory`; then the records are as before.
+pub fn apply<D: DocStore, L: Ledger>(
+    store: &mut D,
+    alloc: Global,
+    schema: &Schema,
+    diff: &Diff,
+    steps: &mut Steps<L>,
+) -> Result<Diff, TxnFault>
+    ensures ok { OnOk result (D.records store.new ≡ step (is_admitted (schema_tree schema.now)) (D.records store.old) diff.now) }
+    ensures back { IfOk result (λ back. back ≡ inverse_diff (is_admitted (schema_tree schema.now)) (D.records store.old) diff.now) }
+    ensures nested { (result ≡ Err TxnFault.TooNested) ↔ (16 ≤ length (D.begun store.old)) }
+    ensures err { OnErr result (D.records store.new ≡ D.records store.old) }
+    ensures begun { D.begun store.new ≡ D.begun store.old }
+    ensures rest { D.rest store.new ≡ D.rest store.old }
+    ensures ticks { steps.new ≤ steps.old + length diff.now }
+{
+    store.begin()?;
+    match apply_each(store, alloc, schema, diff, steps) {
+        Ok(back) => {
+            store.commit();
+            Ok(back)
+        }
+        Err(_) => {
+            store.abort();
+            Err(TxnFault::OutOfMemory)
+        }
+    }
+}
+
+/// Applies a diff, and then the diff that undoes it. The records are as before, where each record that a patch changed was
+/// admitted. `TooNested` exactly where 16 transactions are open, and then the records are as before; or `OutOfMemory`, and
+/// then nothing is said of them.
+pub fn apply_and_undo<D: DocStore, L: Ledger>(
+    store: &mut D,
+    alloc: Global,
+    schema: &Schema,
+    diff: &Diff,
+    steps: &mut Steps<L>,
+) -> Result<(), TxnFault>
+    ensures undone { ArePatchedAdmitted (is_admitted (schema_tree schema.now)) (D.records store.old) diff.now → OnOk result (D.records store.new ≡ D.records store.old) }
+    ensures nested { (result ≡ Err TxnFault.TooNested) ↔ (16 ≤ length (D.begun store.old)) }
+    ensures untouched { result ≡ Err TxnFault.TooNested → D.records store.new ≡ D.records store.old }
+    ensures begun { D.begun store.new ≡ D.begun store.old }
+    ensures rest { D.rest store.new ≡ D.rest store.old }
+{
+    // A look-up tells that the records are sound, and the diff's length that its ids rise.
+    let _ = store.get("");
+    let _ = diff.len();
+    let back = apply(store, alloc, schema, diff, steps)?;
+    apply(store, alloc, schema, &back, steps)?;
+    Ok(())
+}
+
+// The step, operation by operation.
+fn apply_each<D: DocStore, L: Ledger>(
+    store: &mut D,
+    alloc: Global,
+    schema: &Schema,
+    diff: &Diff,
+    steps: &mut Steps<L>,
+) -> Mem<Diff>
+    ensures ok { OnOk result (D.records store.new ≡ step (is_admitted (schema_tree schema.now)) (D.records store.old) diff.now) }
+    ensures back { IfOk result (λ back. back ≡ inverse_diff (is_admitted (schema_tree schema.now)) (D.records store.old) diff.now) }
+    ensures begun { D.begun store.new ≡ D.begun store.old }
+    ensures rest { D.rest store.new ≡ D.rest store.old }
+    ensures ticks { steps.new ≤ steps.old + length diff.now }
+{
+    let mut back = Diff::new(alloc);
+    'ids: for (id, op) in diff.as_slice() {
+        let undo = apply_one(store, alloc, schema, id, op, steps)?;
+        keep(alloc, &mut back, id, undo)?;
+    }
+    Ok(back)
+}
+
+// Does one operation, where it acts, and answers what undoes it.
+fn apply_one<D: DocStore, L: Ledger>(
+    store: &mut D,
+    alloc: Global,
+    schema: &Schema,
+    id: &Text,
+    op: &RecordOp,
+    steps: &mut Steps<L>,
+) -> Mem<Option<RecordOp>>
+    ensures ok { OnOk result (D.records store.new ≡ stepped (is_admitted (schema_tree schema.now)) (D.records store.old) id.now (change_of op.now)) }
+    ensures back { IfOk result (λ undo. maybe_change undo ≡ undoing (is_admitted (schema_tree schema.now)) (D.records store.old) id.now (change_of op.now)) }
+    ensures begun { D.begun store.new ≡ D.begun store.old }
+    ensures rest { D.rest store.new ≡ D.rest store.old }
+    ensures ticks { steps.new ≤ steps.old + 1 }
+{
+    let before = store.get(id.as_str());
+    let after = apply_record(alloc, before, op)?;
+    if !acts(schema, id, before, &after, op) {
+        return Ok(None);
+    }
+    let undo = inverse(alloc, before, op)?;
+    drop(store.write(alloc, id.as_str(), after, steps)?);
+    Ok(undo)
+}
+
+// Whether an operation acts that makes one record of another.
+fn acts(
+    schema: &Schema,
+    id: &Text,
+    before: Option<&Val>,
+    after: &Option<Val>,
+    op: &RecordOp,
+) -> bool
+    requires { maybe_data after.now ≡ raw (change_of op.now) (maybe_data (option_copied before)) }
+    ensures { result ≡ acts_on (is_admitted (schema_tree schema.now)) id.now (change_of op.now) (maybe_data (option_copied before.entry)) }
+{
+    match op {
+        RecordOp::Put(_) => true,
+        RecordOp::Remove => before.is_some(),
+        RecordOp::Patch(_) => match after {
+            Some(val) => schema.admits(id.as_str(), val).is_ok(),
+            None => false,
+        },
+    }
+}
+
+// Puts what there is under an id.
+fn keep(alloc: Global, back: &mut Diff, id: &Text, undo: Option<RecordOp>) -> Mem<()>
+    ensures { OnOk result (back.new ≡ added back.old id.now (maybe_change undo)) }
+{
+    if let Some(op) = undo {
+        back.put(id.copy(alloc)?, op)?;
+    }
+    Ok(())
+}
