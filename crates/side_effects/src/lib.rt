@@ -1,0 +1,12 @@
+//! What an edit is completed to before it is made, and why an edit is refused.
+//!
+//! Contracts see a wanted diff and the completed one as `Changes`, a schema as a `SchemaTree` and a store as its records.
+//! The crate stands on `doc_store` for stores and on `schema_core` for schemas.
+#![tactic(auto)]
+
+pub mod completion;
+pub mod fault;
+mod rules;
+
+pub use completion::complete;
+pub use fault::EditFault;
