@@ -1,14 +1,8 @@
--- Lists of values as items, and edits in order.
-use Rattle.std.proofs.Common.{◌≡◌, ℕ, zero, suc, ◌<◌, ◌≤◌, ◌==◌, ◌+◌, Bool, true, false, not, cond, List, [], ◌∷◌, ◌++◌, length, take, drop, get_or, set, slice_get, Some, None, nat_lt, Vec, Global, refl, sym, ap, subst, ◌∙◌, arith}
+-- Bytes as lines.
+use Rattle.std.proofs.Common.{◌≡◌, ℕ, suc, ◌<◌, ◌≤◌, ◌==◌, ◌+◌, Bool, true, false, not, cond, List, [], ◌∷◌, ◌++◌, length, take, drop, Some, None, nat_lt, refl, ap, ◌∙◌, arith}
 use Rattle.std.specs.List.{position, position_or_len}
 use Rattle.std.proofs.lemmas.Bool.Decides.{nat_tests}
-use Rattle.std.proofs.lemmas.Option.{slice_get-get_or}
 use Rattle.rooms.specs.Lines.{cut, with_front, lines_of, last_line, newline}
-use Rattle.field_ops.specs.Changes.{Changes}
-use Rattle.rooms.specs.Clients.{may_edit}
-use Rattle.rooms.specs.Replay.{World, edited, passed}
-use Rattle.rooms.specs.Replies.{Answers}
-use Rattle.rooms.specs.declared.world.Reply.TheVariants.{Wrote}
 
 -- how many bytes stand before the first newline
 abbrev front : List ℕ → ℕ
@@ -60,32 +54,3 @@ lines_first whole bytes n at =
 -- no whole line
 pub lines_last : (whole : Bool) (bytes : List ℕ) → position (λ c. c == newline) bytes ≡ None → lines_of whole bytes ≡ last_line whole bytes
 lines_last whole bytes none = ap (λ p. p.0 ++ last_line whole p.1) (cut_none bytes (past_all (front bytes) (length bytes) (rw (position_or_len-front bytes) at none)))
-
-pub last_line-whole : (bytes : List ℕ) → 0 < length bytes → last_line true bytes ≡ bytes ∷ []
-last_line-whole [] some = absurd (omega arith)
-last_line-whole (c ∷ cs) some = refl
-
-pub last_line-cut : (bytes : List ℕ) → last_line false bytes ≡ []
-last_line-cut [] = refl
-last_line-cut (c ∷ cs) = refl
-
-pub last_line-empty : (whole : Bool) (bytes : List ℕ) → length bytes ≡ 0 → last_line whole bytes ≡ []
-last_line-empty whole [] none = refl
-last_line-empty whole (c ∷ cs) none = absurd (omega arith)
-
--- an edit of a client that is there
-pub edited_there : (world : World) (client : ℕ) (diff : Changes) (old new : List Changes) → client < length world → old ≡ get_or world client old → may_edit old diff ≡ true → new ≡ old ++ diff ∷ []
-    → edited world client diff (slice_get world client) ≡ passed [] (Some (set world client new))
-edited_there world client diff old new within is admitted pushed =
-    ap (edited world client diff) (slice_get-get_or world client old within ∙ ap Some (sym is)) ∙ rw (admitted, pushed)
-
-set_again : (world : World) (client : ℕ) (a b : List Changes) → set (set world client a) client b ≡ set world client b
-set_again [] client a b = refl
-set_again (c ∷ cs) zero a b = refl
-set_again (c ∷ cs) (suc n) a b = ap (λ rest. c ∷ rest) (set_again cs n a b)
-
--- the reply to such an edit, where the client was taken out for it
-pub answers_edit : (world : World) (client : ℕ) (diff : Changes) (old new out : List Changes) (v : Vec ℕ Global) → client < length world → old ≡ get_or world client old → may_edit old diff ≡ true → new ≡ old ++ diff ∷ []
-    → v.items ≡ [] → Answers (edited world client diff (slice_get world client)) (Wrote v) (Some (set (set world client out) client new))
-answers_edit world client diff old new out v within is admitted pushed none =
-    subst (λ t. Answers t (Wrote v) (Some (set (set world client out) client new))) (sym (edited_there world client diff old new within is admitted pushed)) (none, ap Some (set_again world client out new))

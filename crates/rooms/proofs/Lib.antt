@@ -2,3 +2,15 @@ pub mod Laws
 pub mod Diffs
 pub mod SoFar
 pub mod Recorded
+pub mod Lists
+pub mod Pushing
+pub mod Accepting
+pub mod Following
+pub mod Storing
+pub mod Ruling
+pub mod Completing
+pub mod Edits
+pub mod Replying
+pub mod Sends
+pub mod Handles
+pub mod Delivers

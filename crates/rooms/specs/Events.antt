@@ -3,10 +3,10 @@ use Rattle.std.specs.Prelude.{ℕ, List, length, Bool, false, ◌&&◌, ◌==◌
 use Rattle.std.specs.Option.{option_map_or}
 use Rattle.std.specs.Str.{bytes_eq}
 use Rattle.rooms_val.specs.Data.{Data, Pairs}
-use Rattle.rooms.specs.Forms.{pairs_in, text_at, number_at, pairs_at}
+use Rattle.rooms.specs.Forms.{pairs_in, text_at, number_at, pairs_at, is_false}
 use Rattle.room_model.specs.Readings.{changes_of}
 use Rattle.rooms.specs.declared.recording.Event.{Event}
-use Rattle.rooms.specs.declared.recording.Event.TheVariants.{Client, Edit, Show, End}
+use Rattle.rooms.specs.declared.recording.Event.TheVariants.{Client, Connect, Edit, Handle, Send, Deliver, Show, End}
 
 -- the field has this number
 abbrev pub has_number : Pairs → List ℕ → ℕ → Bool
@@ -31,9 +31,14 @@ edit_event ps =
     if length ps == 3 then option_and_then (λ client. option_map (Edit client) (option_and_then changes_of (pairs_at ps (codes "diff")))) (number_at ps (codes "client"))
     else None
 
--- `{"client":C,"do":"show"}`
-abbrev pub show_event : Pairs → Option Event
-show_event ps = if length ps == 2 then option_map Show (number_at ps (codes "client")) else None
+-- `{"client":C,"do":"connect","readonly":false}`
+abbrev pub connect_event : Pairs → Option Event
+connect_event ps = if (length ps == 3) && is_false ps (codes "readonly") then option_map Connect (number_at ps (codes "client")) else None
+
+-- the number of an event that has only this field beside its `do`: `{"client":C,"do":"show"}`, or `deliver`, and
+-- `{"do":"handle","session":S}`, or `send`
+abbrev pub only_number : Pairs → List ℕ → Option ℕ
+only_number ps key = if length ps == 2 then number_at ps key else None
 
 -- `{"do":"end"}`
 abbrev pub end_event : Pairs → Option Event
@@ -43,7 +48,11 @@ abbrev pub event_named : Pairs → List ℕ → Option Event
 event_named ps name =
     if bytes_eq name (codes "client") then client_event ps
     else if bytes_eq name (codes "edit") then edit_event ps
-    else if bytes_eq name (codes "show") then show_event ps
+    else if bytes_eq name (codes "show") then option_map Show (only_number ps (codes "client"))
+    else if bytes_eq name (codes "connect") then connect_event ps
+    else if bytes_eq name (codes "handle") then option_map Handle (only_number ps (codes "session"))
+    else if bytes_eq name (codes "send") then option_map Send (only_number ps (codes "session"))
+    else if bytes_eq name (codes "deliver") then option_map Deliver (only_number ps (codes "client"))
     else if bytes_eq name (codes "end") then end_event ps
     else None
 

@@ -1,9 +1,13 @@
 pub mod Lines
 pub mod Forms
 pub mod Events
+pub mod Rules
+pub mod Stored
 pub mod Clients
+pub mod Handling
 pub mod Texts
 pub mod Replay
 pub mod Jobs
+pub mod Standing
 pub mod Replies
 pub mod Runs

@@ -1,5 +1,5 @@
 -- How a recording is cut into lines.
-use Rattle.std.specs.Prelude.{ℕ, ◌==◌, ◌||◌, nat_lt, List, [], ◌∷◌, ◌++◌, length, take, Bool, if◌then◌else◌}
+use Rattle.std.specs.Prelude.{ℕ, ◌==◌, ◌&&◌, ◌||◌, nat_lt, List, [], ◌∷◌, ◌++◌, length, take, Bool, if◌then◌else◌}
 use Rattle.std.specs.List.{list_all}
 
 abbrev pub newline : ℕ
@@ -23,10 +23,12 @@ abbrev pub cut : List ℕ → List (List ℕ) × List ℕ
 cut [] = ([], [])
 cut (c ∷ cs) = if c == newline then ([] ∷ (cut cs).0, (cut cs).1) else with_front c (cut cs).0 (cut cs).1
 
--- a last piece, where it is whole and has a byte
+-- whether a last piece is a line: it has a byte, and the recording ends with it or it is too long for a line already
+abbrev pub is_last_line : Bool → List ℕ → Bool
+is_last_line whole piece = nat_lt 0 (length piece) && (whole || nat_lt longest_line (length piece))
+
 abbrev pub last_line : Bool → List ℕ → List (List ℕ)
-last_line whole [] = []
-last_line whole (c ∷ cs) = if whole then (c ∷ cs) ∷ [] else []
+last_line whole piece = if is_last_line whole piece then piece ∷ [] else []
 
 -- the lines of some bytes, which are the whole recording or its front
 abbrev pub lines_of : Bool → List ℕ → List (List ℕ)

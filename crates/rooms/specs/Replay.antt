@@ -1,21 +1,19 @@
 -- What a recording writes, as a function of its bytes.
-use Rattle.std.specs.Prelude.{ℕ, ◌+◌, nat_lt, List, [], ◌∷◌, ◌++◌, length, Bool, true, false, if◌then◌else◌, Option, Some, None, Result, Ok, Err, slice_get, slice_set}
+use Rattle.std.specs.Prelude.{ℕ, ◌+◌, nat_lt, List, [], ◌∷◌, ◌++◌, length, Bool, true, false, if◌then◌else◌, Option, Some, None, Result, Ok, Err, slice_get}
+use Rattle.std.specs.Option.{option_map_or}
 use Rattle.rooms_val.specs.Data.{Data}
 use Rattle.rooms_val.specs.Json.{value_of}
 use Rattle.rooms_val.specs.declared.fault.ValFault.{ValFault}
 use Rattle.rooms.specs.Lines.{longest_line, is_blank, is_whole, recorded_lines}
 use Rattle.rooms.specs.Events.{is_header, event_of}
-use Rattle.field_ops.specs.Changes.{Changes}
-use Rattle.rooms.specs.Clients.{may_edit}
+use Rattle.room_model.specs.Histories.{document_of}
+use Rattle.room_model.specs.Worlds.{World, Client, empty_world, held, after_join, after_connect, after_edit, after_handle, after_send, after_deliver}
+use Rattle.rooms.specs.Clients.{completes, is_document, is_admitted}
 use Rattle.rooms.specs.Texts.{fault_line, show_line, end_line}
 use Rattle.rooms.specs.declared.fault.Fault.{Fault}
 use Rattle.rooms.specs.declared.fault.Fault.TheVariants.{Line, Step, Unended, TooMuch}
 use Rattle.rooms.specs.declared.recording.Event.{Event}
-use Rattle.rooms.specs.declared.recording.Event.TheVariants.{Client, Edit, Show, End}
-
--- the clients of a recording by number, each as its edits, oldest first
-abbrev pub World : Type 0
-World = List (List Changes)
+use Rattle.rooms.specs.declared.recording.Event.TheVariants as event
 
 -- how far a recording was read: before its header, or in this world
 abbrev pub Progress : Type 0
@@ -27,25 +25,27 @@ pub data Taken : Type 0 where
   passed : List ℕ → Progress → Taken
   ended : List ℕ → Taken
 
--- an edit of a client, where there is that client and it may make the edit
-abbrev pub edited : World → ℕ → Changes → Option (List Changes) → Taken
-edited world client diff None = refused Step
-edited world client diff (Some edits) = if may_edit edits diff then passed [] (Some (slice_set world client (edits ++ diff ∷ []))) else refused Step
+-- an event that makes a next world writes nothing; one that can't happen is refused
+abbrev pub moved : Option World → Taken
+moved None = refused Step
+moved (Some world) = passed [] (Some world)
 
-abbrev pub shown : World → ℕ → Option (List Changes) → Taken
-shown world client None = refused Step
-shown world client (Some edits) = passed (show_line client edits) (Some world)
+-- what a client shows, where there is that client
+abbrev pub shown_by : World → ℕ → Client → Taken
+shown_by world number client = passed (show_line number client.reached (held is_admitted world.room.history client) (length client.owed)) (Some world)
 
--- a first client joins; a second one is refused
-abbrev pub joined : World → Taken
-joined [] = passed [] (Some ([] ∷ []))
-joined (edits ∷ world) = refused Step
+abbrev pub shown : World → ℕ → Taken
+shown world number = option_map_or (shown_by world number) (slice_get world.clients number) (refused Step)
 
 abbrev pub happened : World → Event → Taken
-happened world Client = joined world
-happened world (Edit client diff) = edited world client diff (slice_get world client)
-happened world (Show client) = shown world client (slice_get world client)
-happened world End = ended end_line
+happened world event.Client = moved (after_join world)
+happened world (event.Connect client) = moved (after_connect world client)
+happened world (event.Edit client diff) = moved (after_edit is_admitted completes world client diff)
+happened world (event.Handle session) = moved (after_handle is_document is_admitted world session)
+happened world (event.Send session) = moved (after_send world session)
+happened world (event.Deliver client) = moved (after_deliver world client)
+happened world (event.Show client) = shown world client
+happened world event.End = ended (end_line (length world.room.history) (document_of world.room.history))
 
 abbrev pub happened_if_any : World → Option Event → Taken
 happened_if_any world None = refused Line
@@ -53,7 +53,7 @@ happened_if_any world (Some event) = happened world event
 
 -- a line's value: the header at first, and events from then on
 abbrev pub taken_value : Progress → Data → Taken
-taken_value None d = if is_header d then passed [] (Some []) else refused Line
+taken_value None d = if is_header d then passed [] (Some empty_world) else refused Line
 taken_value (Some world) d = happened_if_any world (event_of d)
 
 abbrev pub taken_if_read : Progress → Result Data ValFault → Taken

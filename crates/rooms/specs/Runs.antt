@@ -1,6 +1,7 @@
 -- How a run ends, and what it leaves in its sink.
-use Rattle.std.specs.Prelude.{◌≡◌, ℕ, List, ◌++◌, true, false, ⊤, Option, Some, None, Result, Ok, Err, if◌then◌else◌}
+use Rattle.std.specs.Prelude.{◌≡◌, ℕ, List, ◌++◌, drop, true, false, ⊤, Option, Some, None, Result, Ok, Err, if◌then◌else◌}
 use Rattle.room_link.specs.Held.{Extends}
+use Rattle.rooms.specs.Lines.{most_bytes}
 use Rattle.rooms.specs.Replay.{Written, replay}
 use Rattle.rooms.specs.declared.play.End.{End}
 use Rattle.rooms.specs.declared.play.End.TheVariants.{Done, Refused}
@@ -35,6 +36,11 @@ Finishes lines (Err e) old new = HoldsFront lines.text old new
 abbrev pub Leaves : Option (List ℕ) → Result End Stop → Option (List ℕ) → Option (List ℕ) → Type 0
 Leaves None result old new = ⊤
 Leaves (Some recording) result old new = Finishes (replay recording) result old new
+
+-- where the source tells the recording that it held, what follows the bytes that are looked at is left in it
+abbrev pub IsRead : Option (List ℕ) → Option (List ℕ) → Type 0
+IsRead None left = ⊤
+IsRead (Some recording) left = left ≡ Some (drop most_bytes recording)
 
 -- the status of a recording that is read whole: 0 where it is read to its end, 3 where it is refused
 abbrev pub status_of : List ℕ → ℕ

@@ -1,10 +1,8 @@
 -- The lines that a replay writes.
-use Rattle.std.specs.Prelude.{ℕ, pos, negsuc, List, [], ◌∷◌, ◌++◌, true, length, codes}
+use Rattle.std.specs.Prelude.{ℕ, ℤ, pos, List, [], ◌∷◌, ◌++◌, true, codes}
 use Rattle.rooms_val.specs.Data.{Pairs, boolean, whole, text, map, members_of, no_members}
 use Rattle.rooms_val.specs.Json.{text_of}
 use Rattle.rooms.specs.Lines.{newline}
-use Rattle.field_ops.specs.Changes.{Changes}
-use Rattle.rooms.specs.Clients.{held}
 use Rattle.rooms.specs.declared.fault.Fault.{Fault}
 use Rattle.rooms.specs.declared.fault.Fault.TheVariants.{Line, Step, Unended, TooMuch}
 
@@ -22,13 +20,15 @@ fault_name TooMuch = codes "TooMuch"
 unfoldable pub fault_line : ℕ → Fault → List ℕ
 fault_line at fault = line_of ((codes "at", whole (pos at)) ∷ (codes "fault", text (fault_name fault)) ∷ [])
 
--- what a client shows that was never connected: the clock -1, its edits replayed, nobody else, and how many edits it owes
-unfoldable pub show_line : ℕ → List Changes → List ℕ
-show_line client edits = line_of (
-    (codes "clock", whole (negsuc 0)) ∷ (codes "doc", map (members_of (held edits))) ∷ (codes "others", map no_members)
-    ∷ (codes "owed", whole (pos (length edits))) ∷ (codes "show", whole (pos client)) ∷ []
+-- what a client shows: the clock that it has reached, what it holds, nobody else, and how many edits it owes
+unfoldable pub show_line : ℕ → ℤ → Pairs → ℕ → List ℕ
+show_line client reached document owed = line_of (
+    (codes "clock", whole reached) ∷ (codes "doc", map (members_of document)) ∷ (codes "others", map no_members)
+    ∷ (codes "owed", whole (pos owed)) ∷ (codes "show", whole (pos client)) ∷ []
     )
 
--- what the room holds at the end, to which nobody connected
-unfoldable pub end_line : List ℕ
-end_line = line_of ((codes "clock", whole (pos 0)) ∷ (codes "doc", map no_members) ∷ (codes "end", boolean true) ∷ (codes "presence", map no_members) ∷ [])
+-- what the room holds at the end, and its clock
+unfoldable pub end_line : ℕ → Pairs → List ℕ
+end_line clock document = line_of (
+    (codes "clock", whole (pos clock)) ∷ (codes "doc", map (members_of document)) ∷ (codes "end", boolean true) ∷ (codes "presence", map no_members) ∷ []
+    )

@@ -5,11 +5,12 @@
 pub enum Fault {
     /// The line is no header, or no event, of a form that is taken.
     Line,
-    /// The event names a client that isn't there, makes a second client, or edits what it may not.
+    /// The event can't happen: it names a client or a session that isn't there, makes a second client or a second session
+    /// of one, makes an edit that is refused, or moves a message where there is none.
     Step,
     /// The recording stops.
     Unended,
-    /// The recording goes on beyond 2^30 bytes.
+    /// The recording has 2^30 bytes or more, and no `end` line in those.
     TooMuch,
 }
 

@@ -1,7 +1,7 @@
 //! What stands in the fields of a line's value.
 ghost use Rattle.std.specs.Prelude.{◌≡◌, ◌==◌, option_map};
 ghost use Rattle.rooms_val.specs.View.{data_of};
-ghost use Rattle.rooms.specs.Forms.{is_text, pairs_in, text_at, number_at};
+ghost use Rattle.rooms.specs.Forms.{is_false, is_false_value, pairs_in, text_at, number_at};
 ghost use Rattle.rooms.specs.Events.{has_number};
 
 use rooms_val::{Fields, Val};
@@ -13,16 +13,6 @@ pub(crate) fn fields_in(val: &Val) -> Option<&Fields>
     match val {
         Val::Map(fields) => Some(fields),
         _ => None,
-    }
-}
-
-/// Whether the value is this text.
-pub(crate) fn is_text(val: &Val, text: &str) -> bool
-    ensures { result ≡ is_text text.now (data_of val.now) }
-{
-    match val {
-        Val::Text(found) => found.as_str() == text,
-        _ => false,
     }
 }
 
@@ -53,5 +43,24 @@ pub(crate) fn has_number(fields: &Fields, key: &str, number: u64) -> bool
     match number_at(fields, key) {
         Some(found) => found == number,
         None => false,
+    }
+}
+
+/// Whether the value under a key is `false`.
+pub(crate) fn is_false(fields: &Fields, key: &str) -> bool
+    ensures { result ≡ is_false fields.now key.now }
+{
+    match fields.get(key) {
+        Some(val) => is_false_value(val),
+        None => false,
+    }
+}
+
+fn is_false_value(val: &Val) -> bool
+    ensures { result ≡ is_false_value (data_of val.now) }
+{
+    match val {
+        Val::Bool(value) => !*value,
+        _ => false,
     }
 }

@@ -1,12 +1,11 @@
 //! The lines of a recording.
 ghost use Rattle.std.specs.Prelude.{◌≡◌, [], ◌∷◌, ◌<◌, ◌==◌, length, position, MatchOption, IfSome};
-ghost use Rattle.rooms.specs.Lines.{newline, lines_of, is_blank};
+ghost use Rattle.rooms.specs.Lines.{newline, lines_of, is_last_line, is_blank};
 
 /// How many bytes a line may have without its newline.
 pub(crate) const LONGEST_LINE: usize = 1 << 20;
 
-/// The first line and what follows it, or none where no line is left. A last piece without a newline is a line where
-/// these are all the bytes that there are.
+/// The first line and what follows it, or none where no line is left.
 pub(crate) fn next_line(bytes: &[u8], whole: bool) -> Option<(&[u8], &[u8])>
     ensures lines { MatchOption result (lines_of whole bytes.now ≡ [])
         (λ found. lines_of whole bytes.now ≡ found.0.now ∷ lines_of whole found.1.now) }
@@ -14,12 +13,20 @@ pub(crate) fn next_line(bytes: &[u8], whole: bool) -> Option<(&[u8], &[u8])>
 {
     match newline_at(bytes) {
         Some(end) => Some((&bytes[..end], &bytes[end + 1..])),
-        None => if whole && !bytes.is_empty() {
+        None => if is_last_line(bytes, whole) {
             Some((bytes, &[]))
         } else {
             None
         },
     }
+}
+
+/// Whether a last piece without a newline is a line: it has a byte, and the recording ends with it or it is too long
+/// for a line already.
+fn is_last_line(piece: &[u8], whole: bool) -> bool
+    ensures { result ≡ is_last_line whole piece.now }
+{
+    !piece.is_empty() && (whole || piece.len() > LONGEST_LINE)
 }
 
 /// Where the first newline stands.

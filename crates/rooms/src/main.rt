@@ -1,7 +1,7 @@
 //! The program `rooms`: it replays recordings of clients and a room.
 //!
 //! `run` is the top call; its clauses say what is written, and when each status comes. A recording's lines are taken one
-//! by one (`lines`, `recording`, `replay`), happen to the clients (`world`, `client`), and write lines of their own
+//! by one (`lines`, `recording`, `replay`), happen to a room and its client (`world`, `room`, `client`), and write lines of their own
 //! (`texts`). What they write is defined in `specs/`, as a function of the recording's bytes alone.
 #![tactic(auto)]
 
@@ -9,13 +9,17 @@ mod client;
 mod document;
 mod fault;
 mod fields;
+mod held;
 mod job;
 mod lines;
 mod play;
 mod reading;
 mod recording;
 mod replay;
+mod room;
+mod rules;
 mod run;
+mod stored;
 #[cfg(test)]
 mod tests;
 mod texts;
@@ -38,7 +42,7 @@ const USAGE: &str = "usage: rooms replay";
 const HELP: &str = "\
 usage: rooms replay
 
-  replay     replays the recording on standard input, and prints what its clients show
+  replay     replays the recording on standard input: prints what its clients show, and what the room holds at its end
   --help     prints this
   --version  prints the program's name and version
 ";

@@ -1,10 +1,10 @@
 //! A recording, replayed from its source to its sink.
-ghost use Rattle.std.specs.Prelude.{◌≡◌, ◌<◌, ◌≤◌, ◌^◌, ℕ, length, IfOk, OnErr, IsErrOf, None, Some};
-ghost use Rattle.room_link.specs.Held.{Extends};
-ghost use Rattle.rooms.specs.Replay.{written, unended_fault};
-ghost use Rattle.rooms.specs.Texts.{fault_line};
+ghost use Rattle.std.specs.Prelude.{◌≡◌, ◌<◌, ◌≤◌, ◌^◌, length, IfOk, IsErrOf, Option, None};
+ghost use Rattle.rooms.specs.Replay.{Taken, Progress, Written, written, followed, unended_fault};
 ghost use Rattle.rooms.specs.Lines.{lines_of};
-ghost use Rattle.rooms.specs.Runs.{HoldsFront, Finishes, Leaves, status_code};
+ghost use Rattle.rooms.specs.Replies.{Answers, Begins};
+ghost use Rattle.rooms.specs.Runs.{Finishes, IsRead, Leaves, status_code};
+ghost use Rattle.rooms.specs.declared.world.World.{World};
 ghost use Rattle.rooms.specs.declared.play.Stop.TheVariants as stop;
 
 use crate::fault::Fault;
@@ -17,8 +17,9 @@ use crate::writing::write_all;
 use room_link::Failed;
 use room_link::sink::Sink;
 use room_link::source::Source;
-use rooms_val::OutOfMemory;
+use rooms_val::{Mem, OutOfMemory, Steps};
 use std::alloc::Global;
+use std::sync::ledger::Ledger;
 
 /// How many bytes of a recording are looked at.
 const MOST_BYTES: usize = 1 << 30;
@@ -85,22 +86,31 @@ pub(crate) fn status(ending: Result<End, Stop>) -> u8
     }
 }
 
-/// Reads the recording that the source holds, to its end or to 2^30 bytes, and writes what it shows.
-pub fn replay_job<S: Source, K: Sink>(
+/// Reads the recording that the source holds, to its end or to 2^30 bytes, and writes what it shows. `SourceFailed` comes
+/// only where a read failed, `SinkFailed` only where a write did, and else `OutOfMemory`.
+pub fn replay_job<S: Source, K: Sink, L: Ledger>(
     alloc: Global,
     source: &mut S,
     sink: &mut K,
+    steps: &mut Steps<L>,
 ) -> Result<End, Stop>
     ensures leaves { Leaves (S.left source.old) result (K.held sink.old) (K.held sink.new) }
+    ensures reads { IfOk result (λ _. IsRead (S.left source.old) (S.left source.new)) }
     ensures source_failed { IsErrOf result stop.SourceFailed → S.faults source.old < S.faults source.new }
     ensures sink_failed { IsErrOf result stop.SinkFailed → K.faults sink.old < K.faults sink.new }
 {
     let bytes = read_up_to(alloc, source, MOST_BYTES)?;
-    play(alloc, &bytes, bytes.len() < MOST_BYTES, sink)
+    play(alloc, &bytes, bytes.len() < MOST_BYTES, sink, steps)
 }
 
 /// Writes what the lines show of a recording whose front this is, or the whole.
-fn play<K: Sink>(alloc: Global, bytes: &[u8], whole: bool, sink: &mut K) -> Result<End, Stop>
+fn play<K: Sink, L: Ledger>(
+    alloc: Global,
+    bytes: &[u8],
+    whole: bool,
+    sink: &mut K,
+    steps: &mut Steps<L>,
+) -> Result<End, Stop>
     requires { length bytes.now ≤ 2 ^ 30 }
     ensures finishes { Finishes (written (unended_fault whole) None 1 (lines_of whole bytes.now)) result (K.held sink.old) (K.held sink.new) }
     ensures sink_failed { IsErrOf result stop.SinkFailed → K.faults sink.old < K.faults sink.new }
@@ -110,18 +120,34 @@ fn play<K: Sink>(alloc: Global, bytes: &[u8], whole: bool, sink: &mut K) -> Resu
     let mut rest = bytes;
     let mut at = 1u64;
     'lines: while let Some((line, after)) = next_line(rest, whole) {
-        match replay.take_line(alloc, line)? {
-            Reply::Refused(fault) => return refuse(alloc, sink, at, fault),
-            Reply::Wrote(text) => write_all(sink, &text)?,
-            Reply::Ended(text) => {
-                write_all(sink, &text)?;
-                return Ok(End::Done);
-            }
+        let reply = replay.take_line(alloc, line, steps)?;
+        let (text, end) = outcome(alloc, at, reply)?;
+        write_all(sink, &text)?;
+        if let Some(end) = end {
+            return Ok(end);
         }
         rest = after;
         at += 1;
     }
-    refuse(alloc, sink, at, unended(whole))
+    let text = texts::fault_line(alloc, at, unended(whole))?;
+    write_all(sink, &text)?;
+    Ok(End::Refused)
+}
+
+/// The text that a line writes, and how the recording ends with it, if it does.
+fn outcome(alloc: Global, at: u64, reply: Reply) -> Mem<(Vec<u8>, Option<End>)>
+    requires { at < 2 ^ 63 }
+    ensures { IfOk result (λ written. (line : Taken) (world : Option World) (rest : Progress → Written)
+        → Answers line reply world → Begins (followed at line rest) written.0.items written.1 world rest) }
+{
+    match reply {
+        Reply::Refused(fault) => {
+            let text = texts::fault_line(alloc, at, fault)?;
+            Ok((text, Some(End::Refused)))
+        }
+        Reply::Wrote(text) => Ok((text, None)),
+        Reply::Ended(text) => Ok((text, Some(End::Done))),
+    }
 }
 
 /// Why a recording without an end is refused.
@@ -133,17 +159,4 @@ fn unended(whole: bool) -> Fault
     } else {
         Fault::TooMuch
     }
-}
-
-/// Writes where the recording is refused, and why.
-fn refuse<K: Sink>(alloc: Global, sink: &mut K, at: u64, fault: Fault) -> Result<End, Stop>
-    requires { at < 2 ^ 63 }
-    ensures refused { IfOk result (λ end. (end ≡ End.Refused) × Extends (K.held sink.old) (K.held sink.new) (fault_line at fault)) }
-    ensures front { OnErr result (HoldsFront (fault_line at fault) (K.held sink.old) (K.held sink.new)) }
-    ensures sink_failed { IsErrOf result stop.SinkFailed → K.faults sink.old < K.faults sink.new }
-    ensures no_source { IsErrOf result stop.SourceFailed → ⊥ }
-{
-    let line = texts::fault_line(alloc, at, fault)?;
-    write_all(sink, &line)?;
-    Ok(End::Refused)
 }

@@ -13,8 +13,10 @@ const PIECE: usize = 65_536;
 /// Why a source wasn't read to its end.
 #[derive(Clone, Copy, Debug, PartialEq, Eq, Error)]
 pub enum ReadFault {
+    /// A read failed.
     #[error("the source failed")]
     Failed,
+    /// Memory was refused.
     #[error("out of memory")]
     OutOfMemory,
 }

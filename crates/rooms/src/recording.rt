@@ -3,9 +3,9 @@ ghost use Rattle.std.specs.Prelude.{◌≡◌, IfOk, option_and_then};
 ghost use Rattle.rooms_val.specs.View.{data_of};
 ghost use Rattle.room_model.specs.Readings.{changes_of};
 ghost use Rattle.rooms.specs.Forms.{pairs_in};
-ghost use Rattle.rooms.specs.Events.{is_header_map, is_header, client_event, edit_event, show_event, end_event, event_named, event_in, event_of};
+ghost use Rattle.rooms.specs.Events.{is_header_map, is_header, client_event, connect_event, edit_event, only_number, end_event, event_named, event_in, event_of};
 
-use crate::fields::{fields_in, has_number, number_at, text_at};
+use crate::fields::{fields_in, has_number, is_false, number_at, text_at};
 use field_ops::{Diff, read_diff};
 use rooms_val::{Fields, Mem, OpFault, OutOfMemory, Val};
 use std::alloc::Global;
@@ -18,8 +18,16 @@ const VERSION: u64 = 3;
 pub enum Event {
     /// A client joins.
     Client,
+    /// A client asks to be connected.
+    Connect { client: u64 },
     /// A client edits its document.
     Edit { client: u64, diff: Diff },
+    /// What comes next from a session is given to the room.
+    Handle { session: u64 },
+    /// The room gives a session what is next for it.
+    Send { session: u64 },
+    /// What comes next to a client's session is given to the client.
+    Deliver { client: u64 },
     /// A client shows what it holds.
     Show { client: u64 },
     /// The recording ends.
@@ -71,7 +79,15 @@ fn event_named(alloc: Global, fields: &Fields, name: &str) -> Mem<Option<Event>>
     } else if name == "edit" {
         edit_event(alloc, fields)
     } else if name == "show" {
-        Ok(show_event(fields))
+        Ok(number_of(fields, "client").map(|client| Event::Show { client }))
+    } else if name == "connect" {
+        Ok(connect_event(fields))
+    } else if name == "handle" {
+        Ok(number_of(fields, "session").map(|session| Event::Handle { session }))
+    } else if name == "send" {
+        Ok(number_of(fields, "session").map(|session| Event::Send { session }))
+    } else if name == "deliver" {
+        Ok(number_of(fields, "client").map(|client| Event::Deliver { client }))
     } else if name == "end" {
         Ok(end_event(fields))
     } else {
@@ -107,14 +123,24 @@ fn edit_event(alloc: Global, fields: &Fields) -> Mem<Option<Event>>
     }
 }
 
-fn show_event(fields: &Fields) -> Option<Event>
-    ensures { result ≡ show_event fields.now }
+/// The number of an event that has only this field beside its `do`.
+fn number_of(fields: &Fields, key: &str) -> Option<u64>
+    ensures { result ≡ only_number fields.now key.now }
 {
     if fields.len() != 2 {
         return None;
     }
+    number_at(fields, key)
+}
+
+fn connect_event(fields: &Fields) -> Option<Event>
+    ensures { result ≡ connect_event fields.now }
+{
+    if fields.len() != 3 || !is_false(fields, "readonly") {
+        return None;
+    }
     let client = number_at(fields, "client")?;
-    Some(Event::Show { client })
+    Some(Event::Connect { client })
 }
 
 fn end_event(fields: &Fields) -> Option<Event>

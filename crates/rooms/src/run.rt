@@ -1,7 +1,7 @@
 //! The top call.
 ghost use Rattle.std.specs.Prelude.{◌≡◌, ◌<◌, ◌↔◌, ◌⊎◌, string_bytes, map, None};
 ghost use Rattle.rooms.specs.Jobs.{job_named};
-ghost use Rattle.rooms.specs.Runs.{Replays, ReplaysFront};
+ghost use Rattle.rooms.specs.Runs.{IsRead, Replays, ReplaysFront};
 
 use crate::job::{Job, job_of};
 use crate::play::{replay_job, status};
@@ -34,6 +34,9 @@ pub fn run<S: Source, K: Sink, L: Ledger>(
     ensures done { (result ≡ 0) ⊎ (result ≡ 3)
         → Replays (S.left source.old) result (K.held sink.old) (K.held sink.new) }
 
+    // On 0 and 3 the source is read to its end or to 2^30 bytes, and no further.
+    ensures reads { (result ≡ 0) ⊎ (result ≡ 3) → IsRead (S.left source.old) (S.left source.new) }
+
     // On 4, 5 and 6 a front of it is written.
     ensures stopped { (result ≡ 4) ⊎ (result ≡ 5) ⊎ (result ≡ 6)
         → ReplaysFront (S.left source.old) (K.held sink.old) (K.held sink.new) }
@@ -42,9 +45,8 @@ pub fn run<S: Source, K: Sink, L: Ledger>(
     ensures source_failed { result ≡ 4 → S.faults source.old < S.faults source.new }
     ensures sink_failed { result ≡ 5 → K.faults sink.old < K.faults sink.new }
 {
-    let _ = steps;
     match job_of(words) {
         None => USAGE,
-        Some(Job::Replay) => status(replay_job(alloc, source, sink)),
+        Some(Job::Replay) => status(replay_job(alloc, source, sink, steps)),
     }
 }

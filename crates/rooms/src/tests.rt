@@ -22,6 +22,14 @@ const SHOW: &str = r#"{"client":0,"do":"show"}"#;
 
 const END: &str = r#"{"do":"end"}"#;
 
+const CONNECT: &str = r#"{"client":0,"do":"connect","readonly":false}"#;
+
+const HANDLE: &str = r#"{"do":"handle","session":0}"#;
+
+const SEND: &str = r#"{"do":"send","session":0}"#;
+
+const DELIVER: &str = r#"{"client":0,"do":"deliver"}"#;
+
 const SHOWN_EMPTY: &str = r#"{"clock":-1,"doc":{},"others":{},"owed":0,"show":0}"#;
 
 const ENDED: &str = r#"{"clock":0,"doc":{},"end":true,"presence":{}}"#;
@@ -90,11 +98,11 @@ fn replays_recordings(rt: HostRuntime) -> Result<(), Fail> {
     let put =
         r#"{"client":0,"diff":{"page:p":["put",{"id":"page:p","index":"a0","meta":{},"name":"P","typeName":"page"}]},"do":"edit"}"#;
     let put_again =
-        r#"{"do":"edit","diff":{"page:p":["put",{"id":"page:p"}],"a":["put",{"id":"a"}]},"client":0}"#;
+        r#"{"do":"edit","diff":{"page:p":["put",{"id":"page:p","index":"a0","meta":{},"name":"Q","typeName":"page"}],"page:a":["put",{"id":"page:a","index":"a0","meta":{},"name":"","typeName":"page"}]},"client":0}"#;
     let shown =
         r#"{"clock":-1,"doc":{"page:p":{"id":"page:p","index":"a0","meta":{},"name":"P","typeName":"page"}},"others":{},"owed":1,"show":0}"#;
     let shown_again =
-        r#"{"clock":-1,"doc":{"a":{"id":"a"},"page:p":{"id":"page:p"}},"others":{},"owed":2,"show":0}"#;
+        r#"{"clock":-1,"doc":{"page:a":{"id":"page:a","index":"a0","meta":{},"name":"","typeName":"page"},"page:p":{"id":"page:p","index":"a0","meta":{},"name":"Q","typeName":"page"}},"others":{},"owed":2,"show":0}"#;
     let cases: [(&[&str], &[&str], u8); 13] = [
         (&[HEADER, CLIENT, SHOW, END], &[SHOWN_EMPTY, ENDED], 0),
         (&[HEADER, CLIENT, put, SHOW, END], &[shown, ENDED], 0),
@@ -128,7 +136,7 @@ fn replays_recordings(rt: HostRuntime) -> Result<(), Fail> {
                 HEADER,
                 CLIENT,
                 SHOW,
-                r#"{"client":0,"diff":{"a":["put",{"id":"b"}]},"do":"edit"}"#,
+                r#"{"client":0,"diff":{"page:a":["put",{"id":"page:b","index":"a0","meta":{},"name":"","typeName":"page"}]},"do":"edit"}"#,
             ],
             &[SHOWN_EMPTY, r#"{"at":4,"fault":"Step"}"#],
             3,
@@ -160,24 +168,24 @@ fn replays_recordings(rt: HostRuntime) -> Result<(), Fail> {
 fn edits_documents(rt: HostRuntime) -> Result<(), Fail> {
     let alloc = rt.alloc();
     let put =
-        r#"{"client":0,"diff":{"a":["put",{"id":"a","l":[1],"m":{"n":0},"x":1}],"b":["put",{"id":"b"}],"c":["put",{"id":"c"}]},"do":"edit"}"#;
+        r#"{"client":0,"diff":{"page:a":["put",{"id":"page:a","index":"a0","meta":{"l":[1],"m":{"n":0},"x":1},"name":"","typeName":"page"}],"page:b":["put",{"id":"page:b","index":"a0","meta":{},"name":"","typeName":"page"}],"page:c":["put",{"id":"page:c","index":"a0","meta":{},"name":"","typeName":"page"}]},"do":"edit"}"#;
     let patch =
-        r#"{"client":0,"diff":{"a":["patch",{"x":["put",2],"y":["put",null],"z":["delete"]}],"b":["remove"],"c":["patch",{}]},"do":"edit"}"#;
+        r#"{"client":0,"diff":{"page:a":["patch",{"meta":["patch",{"x":["put",2],"y":["put",null],"z":["delete"]}],"name":["put","A"]}],"page:b":["remove"],"page:c":["patch",{}]},"do":"edit"}"#;
     let patched =
-        r#"{"clock":-1,"doc":{"a":{"id":"a","l":[1],"m":{"n":0},"x":2,"y":null},"c":{"id":"c"}},"others":{},"owed":2,"show":0}"#;
+        r#"{"clock":-1,"doc":{"page:a":{"id":"page:a","index":"a0","meta":{"l":[1],"m":{"n":0},"x":2,"y":null},"name":"A","typeName":"page"},"page:c":{"id":"page:c","index":"a0","meta":{},"name":"","typeName":"page"}},"others":{},"owed":2,"show":0}"#;
     let delete =
-        r#"{"client":0,"diff":{"a":["patch",{"x":["delete"],"y":["delete"]}],"d":["put",{"id":"d"}]},"do":"edit"}"#;
+        r#"{"client":0,"diff":{"page:a":["patch",{"meta":["patch",{"x":["delete"],"y":["delete"]}]}],"page:d":["put",{"id":"page:d","index":"a0","meta":{},"name":"","typeName":"page"}]},"do":"edit"}"#;
     let deleted =
-        r#"{"clock":-1,"doc":{"a":{"id":"a","l":[1],"m":{"n":0}},"c":{"id":"c"},"d":{"id":"d"}},"others":{},"owed":3,"show":0}"#;
+        r#"{"clock":-1,"doc":{"page:a":{"id":"page:a","index":"a0","meta":{"l":[1],"m":{"n":0}},"name":"A","typeName":"page"},"page:c":{"id":"page:c","index":"a0","meta":{},"name":"","typeName":"page"},"page:d":{"id":"page:d","index":"a0","meta":{},"name":"","typeName":"page"}},"others":{},"owed":3,"show":0}"#;
     let nested =
-        r#"{"client":0,"diff":{"a":["patch",{"l":["append",[2,3],1],"m":["patch",{"n":["delete"],"o":["put",5]}]}]},"do":"edit"}"#;
+        r#"{"client":0,"diff":{"page:a":["patch",{"meta":["patch",{"l":["append",[2,3],1],"m":["patch",{"n":["delete"],"o":["put",5]}]}]}]},"do":"edit"}"#;
     let nest =
-        r#"{"clock":-1,"doc":{"a":{"id":"a","l":[1,2,3],"m":{"o":5}},"c":{"id":"c"},"d":{"id":"d"}},"others":{},"owed":4,"show":0}"#;
-    // An append at another length, and a patch of a list, don't act.
+        r#"{"clock":-1,"doc":{"page:a":{"id":"page:a","index":"a0","meta":{"l":[1,2,3],"m":{"o":5}},"name":"A","typeName":"page"},"page:c":{"id":"page:c","index":"a0","meta":{},"name":"","typeName":"page"},"page:d":{"id":"page:d","index":"a0","meta":{},"name":"","typeName":"page"}},"others":{},"owed":4,"show":0}"#;
+    // An append at another length, and a patch of a text, don't act.
     let passed =
-        r#"{"client":0,"diff":{"a":["patch",{"l":["append",[9],1]}],"c":["patch",{"id":["patch",{"x":["put",1]}]}]},"do":"edit"}"#;
+        r#"{"client":0,"diff":{"page:a":["patch",{"meta":["patch",{"l":["append",[9],1]}]}],"page:c":["patch",{"id":["patch",{"x":["put",1]}]}]},"do":"edit"}"#;
     let after =
-        r#"{"clock":-1,"doc":{"a":{"id":"a","l":[1,2,3],"m":{"o":5}},"c":{"id":"c"},"d":{"id":"d"}},"others":{},"owed":5,"show":0}"#;
+        r#"{"clock":-1,"doc":{"page:a":{"id":"page:a","index":"a0","meta":{"l":[1,2,3],"m":{"o":5}},"name":"A","typeName":"page"},"page:c":{"id":"page:c","index":"a0","meta":{},"name":"","typeName":"page"},"page:d":{"id":"page:d","index":"a0","meta":{},"name":"","typeName":"page"}},"others":{},"owed":5,"show":0}"#;
     let recording = lines(
         alloc,
         &[
@@ -191,19 +199,113 @@ fn edits_documents(rt: HostRuntime) -> Result<(), Fail> {
 #[test]
 fn refuses_edits(rt: HostRuntime) -> Result<(), Fail> {
     let alloc = rt.alloc();
-    let put = r#"{"client":0,"diff":{"a":["put",{"id":"a"}]},"do":"edit"}"#;
+    let put =
+        r#"{"client":0,"diff":{"page:a":["put",{"id":"page:a","index":"a0","meta":{},"name":"","typeName":"page"}]},"do":"edit"}"#;
     let written = lines(alloc, &[SHOWN_EMPTY, r#"{"at":5,"fault":"Step"}"#])?;
-    let refused: [&str; 7] = [
-        r#"{"client":0,"diff":{"b":["patch",{"x":["put",1]}]},"do":"edit"}"#,
-        r#"{"client":0,"diff":{"b":["remove"]},"do":"edit"}"#,
-        r#"{"client":0,"diff":{"a":["patch",{"id":["put","b"]}]},"do":"edit"}"#,
-        r#"{"client":0,"diff":{"a":["patch",{"id":["delete"]}]},"do":"edit"}"#,
-        r#"{"client":0,"diff":{"b":["put",[]]},"do":"edit"}"#,
-        r#"{"client":0,"diff":{"b":["put",{"id":"b"}],"c":["put",{"id":"b"}]},"do":"edit"}"#,
-        r#"{"client":1,"diff":{"a":["remove"]},"do":"edit"}"#,
+    let refused: [&str; 11] = [
+        r#"{"client":0,"diff":{"page:b":["patch",{"name":["put","B"]}]},"do":"edit"}"#,
+        r#"{"client":0,"diff":{"page:b":["remove"]},"do":"edit"}"#,
+        r#"{"client":0,"diff":{"page:a":["patch",{"id":["put","page:b"]}]},"do":"edit"}"#,
+        r#"{"client":0,"diff":{"page:a":["patch",{"id":["delete"]}]},"do":"edit"}"#,
+        r#"{"client":0,"diff":{"page:b":["put",[]]},"do":"edit"}"#,
+        r#"{"client":0,"diff":{"page:b":["put",{"id":"page:b","index":"a0","meta":{},"name":"","typeName":"page"}],"page:c":["put",{"id":"page:b","index":"a0","meta":{},"name":"","typeName":"page"}]},"do":"edit"}"#,
+        r#"{"client":1,"diff":{"page:a":["remove"]},"do":"edit"}"#,
+        // No id of a type, one of no part of the document, a number out of bounds, and a shape without its index.
+        r#"{"client":0,"diff":{"a":["put",{"id":"a"}]},"do":"edit"}"#,
+        r#"{"client":0,"diff":{"camera:c":["put",{"id":"camera:c","meta":{},"typeName":"camera","x":0,"y":0,"z":1000}]},"do":"edit"}"#,
+        r#"{"client":0,"diff":{"shape:s":["put",{"id":"shape:s","index":"a0","isLocked":false,"meta":{},"opacity":101,"parentId":"page:a","props":{"color":"black","dash":"draw","fill":"none","geo":"rectangle","h":10,"size":"m","text":"","w":10},"rotation":0,"type":"geo","typeName":"shape","x":0,"y":0}]},"do":"edit"}"#,
+        r#"{"client":0,"diff":{"shape:s":["put",{"id":"shape:s","isLocked":false,"meta":{},"opacity":100,"parentId":"page:a","props":{"color":"black","dash":"draw","fill":"none","geo":"rectangle","h":10,"size":"m","text":"","w":10},"rotation":0,"type":"geo","typeName":"shape","x":0,"y":0}]},"do":"edit"}"#,
     ];
     for line in refused.iter() {
         let recording = lines(alloc, &[HEADER, CLIENT, SHOW, put, line])?;
+        replays(&rt, alloc, recording.as_bytes(), 4096, written.as_str(), 3)?;
+    }
+    Ok(())
+}
+
+#[test]
+fn keeps_in_step_with_a_room(rt: HostRuntime) -> Result<(), Fail> {
+    let alloc = rt.alloc();
+    let put =
+        r#"{"client":0,"diff":{"page:a":["put",{"id":"page:a","index":"a0","meta":{"x":1},"name":"","typeName":"page"}]},"do":"edit"}"#;
+    let patch =
+        r#"{"client":0,"diff":{"page:a":["patch",{"meta":["patch",{"x":["put",2]}]}]},"do":"edit"}"#;
+    let remove = r#"{"client":0,"diff":{"page:a":["remove"]},"do":"edit"}"#;
+    let nothing = r#"{"client":0,"diff":{},"do":"edit"}"#;
+    // What was owed before the answer is pushed with it, in order, and an edit from then on at once.
+    let first = lines(
+        alloc,
+        &[
+            HEADER, CLIENT, put, CONNECT, HANDLE, patch, SHOW, SEND, DELIVER, SHOW, HANDLE,
+            nothing, HANDLE, SEND, HANDLE, SHOW, DELIVER, SHOW, SEND, remove, DELIVER, SHOW,
+            HANDLE, SEND, DELIVER, SHOW, END,
+        ],
+    )?;
+    let shown = lines(
+        alloc,
+        &[
+            r#"{"clock":-1,"doc":{"page:a":{"id":"page:a","index":"a0","meta":{"x":2},"name":"","typeName":"page"}},"others":{},"owed":2,"show":0}"#,
+            r#"{"clock":0,"doc":{"page:a":{"id":"page:a","index":"a0","meta":{"x":2},"name":"","typeName":"page"}},"others":{},"owed":2,"show":0}"#,
+            r#"{"clock":0,"doc":{"page:a":{"id":"page:a","index":"a0","meta":{"x":2},"name":"","typeName":"page"}},"others":{},"owed":3,"show":0}"#,
+            r#"{"clock":2,"doc":{"page:a":{"id":"page:a","index":"a0","meta":{"x":2},"name":"","typeName":"page"}},"others":{},"owed":1,"show":0}"#,
+            r#"{"clock":3,"doc":{},"others":{},"owed":1,"show":0}"#,
+            r#"{"clock":4,"doc":{},"others":{},"owed":0,"show":0}"#,
+            r#"{"clock":4,"doc":{},"end":true,"presence":{}}"#,
+        ],
+    )?;
+    replays(&rt, alloc, first.as_bytes(), 4096, shown.as_str(), 0)?;
+    // The room knows of a push only once it was handled.
+    let unhandled = lines(
+        alloc,
+        &[
+            HEADER, CLIENT, CONNECT, HANDLE, SEND, DELIVER, put, patch, HANDLE, END,
+        ],
+    )?;
+    let ended = lines(
+        alloc,
+        &[
+            r#"{"clock":1,"doc":{"page:a":{"id":"page:a","index":"a0","meta":{"x":1},"name":"","typeName":"page"}},"end":true,"presence":{}}"#,
+        ],
+    )?;
+    replays(&rt, alloc, unhandled.as_bytes(), 7, ended.as_str(), 0)
+}
+
+#[test]
+fn refuses_what_cannot_happen(rt: HostRuntime) -> Result<(), Fail> {
+    let alloc = rt.alloc();
+    let edit = r#"{"client":0,"diff":{},"do":"edit"}"#;
+    let cases: [(&[&str], &str); 16] = [
+        (&[], CONNECT),
+        (&[CLIENT], r#"{"client":1,"do":"connect","readonly":false}"#),
+        (&[CLIENT, CONNECT], CONNECT),
+        (&[CLIENT, CONNECT, HANDLE, SEND, DELIVER], CONNECT),
+        (&[CLIENT], HANDLE),
+        (&[CLIENT, CONNECT], r#"{"do":"handle","session":1}"#),
+        (&[CLIENT, CONNECT, HANDLE], HANDLE),
+        (
+            &[CLIENT, CONNECT, HANDLE, SEND, DELIVER, edit, HANDLE],
+            HANDLE,
+        ),
+        (&[CLIENT], SEND),
+        (&[CLIENT, CONNECT], SEND),
+        (&[CLIENT, CONNECT, HANDLE], r#"{"do":"send","session":1}"#),
+        (&[CLIENT, CONNECT, HANDLE, SEND], SEND),
+        (&[CLIENT], DELIVER),
+        (&[CLIENT, CONNECT, HANDLE], DELIVER),
+        (
+            &[CLIENT, CONNECT, HANDLE, SEND],
+            r#"{"client":1,"do":"deliver"}"#,
+        ),
+        (
+            &[CLIENT, CONNECT, HANDLE, SEND, DELIVER, edit, HANDLE],
+            DELIVER,
+        ),
+    ];
+    for (before, line) in cases.iter() {
+        let mut recording = lines(alloc, &[HEADER])?;
+        recording.push_str(lines(alloc, before)?.as_str())?;
+        recording.push_str(line)?;
+        let written = format!(in alloc; "{{\"at\":{},\"fault\":\"Step\"}}\n", before.len() + 2)?;
         replays(&rt, alloc, recording.as_bytes(), 4096, written.as_str(), 3)?;
     }
     Ok(())
@@ -222,7 +324,7 @@ fn takes_a_last_line_without_a_newline(rt: HostRuntime) -> Result<(), Fail> {
 fn refuses_what_is_no_event(rt: HostRuntime) -> Result<(), Fail> {
     let alloc = rt.alloc();
     let written = lines(alloc, &[SHOWN_EMPTY, r#"{"at":4,"fault":"Line"}"#])?;
-    let bad: [&str; 17] = [
+    let bad: [&str; 21] = [
         "{\"do\":\"sh",
         r#"{"client":1.0,"do":"show"}"#,
         r#"{"client":1e3,"do":"show"}"#,
@@ -240,6 +342,10 @@ fn refuses_what_is_no_event(rt: HostRuntime) -> Result<(), Fail> {
         r#"{"client":0,"diff":{"a":["delete"]},"do":"edit"}"#,
         r#"{"client":0,"diff":[],"do":"edit"}"#,
         r#"{"do":"client","version":2}"#,
+        r#"{"client":0,"do":"connect","readonly":true}"#,
+        r#"{"client":0,"do":"connect"}"#,
+        r#"{"do":"handle","session":-1}"#,
+        r#"{"client":0,"do":"deliver","session":0}"#,
     ];
     for line in bad.iter() {
         let recording = lines(alloc, &[HEADER, CLIENT, SHOW, line])?;
@@ -294,26 +400,40 @@ fn refuses_a_line_that_is_too_long(rt: HostRuntime) -> Result<(), Fail> {
     Ok(())
 }
 
-#[test]
-fn shows_a_large_document(rt: HostRuntime) -> Result<(), Fail> {
-    let alloc = rt.alloc();
+/// An edit that puts pages of these numbers.
+fn puts(alloc: Global, from: u32, to: u32) -> Result<String, Fail> {
     let mut edit = String::from_str(alloc, "{\"client\":0,\"diff\":{")?;
-    let mut shown = String::from_str(alloc, "{\"clock\":-1,\"doc\":{")?;
-    for number in 10_000..26_384u32 {
-        if number > 10_000 {
+    for number in from..to {
+        if number > from {
             edit.push(',')?;
-            shown.push(',')?;
         }
         edit.push_str(format!(in alloc;
-            "\"page:{number}\":[\"put\",{{\"id\":\"page:{number}\"}}]"
-        )?.as_str())?;
-        shown.push_str(format!(in alloc;
-            "\"page:{number}\":{{\"id\":\"page:{number}\"}}"
+            "\"page:{number}\":[\"put\",{{\"id\":\"page:{number}\",\"index\":\"a0\",\"meta\":{{}},\"name\":\"\",\"typeName\":\"page\"}}]"
         )?.as_str())?;
     }
     edit.push_str("},\"do\":\"edit\"}")?;
-    shown.push_str("},\"others\":{},\"owed\":1,\"show\":0}")?;
-    let recording = lines(alloc, &[HEADER, CLIENT, edit.as_str(), SHOW, END])?;
+    Ok(edit)
+}
+
+#[test]
+fn shows_a_large_document(rt: HostRuntime) -> Result<(), Fail> {
+    let alloc = rt.alloc();
+    let first = puts(alloc, 10_000, 18_192)?;
+    let second = puts(alloc, 18_192, 26_384)?;
+    let mut shown = String::from_str(alloc, "{\"clock\":-1,\"doc\":{")?;
+    for number in 10_000..26_384u32 {
+        if number > 10_000 {
+            shown.push(',')?;
+        }
+        shown.push_str(format!(in alloc;
+            "\"page:{number}\":{{\"id\":\"page:{number}\",\"index\":\"a0\",\"meta\":{{}},\"name\":\"\",\"typeName\":\"page\"}}"
+        )?.as_str())?;
+    }
+    shown.push_str("},\"others\":{},\"owed\":2,\"show\":0}")?;
+    let recording = lines(
+        alloc,
+        &[HEADER, CLIENT, first.as_str(), second.as_str(), SHOW, END],
+    )?;
     let written = lines(alloc, &[shown.as_str(), ENDED])?;
     replays(
         &rt,
@@ -322,6 +442,22 @@ fn shows_a_large_document(rt: HostRuntime) -> Result<(), Fail> {
         65_536,
         written.as_str(),
         0,
+    )
+}
+
+#[test]
+fn refuses_an_edit_of_too_many_operations(rt: HostRuntime) -> Result<(), Fail> {
+    let alloc = rt.alloc();
+    let edit = puts(alloc, 10_000, 18_193)?;
+    let recording = lines(alloc, &[HEADER, CLIENT, edit.as_str()])?;
+    let written = lines(alloc, &[r#"{"at":3,"fault":"Step"}"#])?;
+    replays(
+        &rt,
+        alloc,
+        recording.as_bytes(),
+        65_536,
+        written.as_str(),
+        3,
     )
 }
 

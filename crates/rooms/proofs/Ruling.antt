@@ -1,0 +1,36 @@
+-- What goes by the types of a schema goes by the whiteboard's, where the schema has these.
+use Rattle.std.proofs.Common.{◌≡◌, [], Some, None, Result, Ok, Err, sym, ap, subst, ◌∙◌}
+use Rattle.std.specs.Result.{result_ok}
+use Rattle.rooms_val.specs.Data.{Pairs}
+use Rattle.field_ops.specs.Changes.{Changes}
+use Rattle.room_model.specs.Documents.{step}
+use Rattle.schema_core.specs.Admits as schema
+use Rattle.schema_core.specs.Tree.{Types, SchemaTree}
+use Rattle.side_effects.specs.Completed.{completed}
+use Rattle.side_effects.specs.declared.fault.EditFault.{EditFault}
+use Rattle.side_effects.specs.declared.fault.EditFault.TheVariants.{OutOfMemory}
+use Rattle.rooms_val.specs.Answers.{Gives}
+use Rattle.rooms.specs.Rules.{HasTypes, whiteboard, is_admitted}
+
+-- a schema of these types alone
+abbrev of_types : Types → SchemaTree
+of_types types = record { types = types; sequences = [] }
+
+pub step_same : (s : SchemaTree) (document : Pairs) (diff : Changes) → HasTypes s → step (λ id d. schema.is_admitted s id d) document diff ≡ step is_admitted document diff
+unfolding is_admitted whiteboard
+step_same s document diff is = ap (λ types. step (λ id d. schema.is_admitted (of_types types) id d) document diff) is
+
+pub completed_same : (s : SchemaTree) (document : Pairs) (wanted : Changes) → HasTypes s → completed s document wanted ≡ completed whiteboard document wanted
+unfolding whiteboard
+completed_same s document wanted is = ap (λ types. completed (of_types types) document wanted) is
+
+-- what an answer gives is completed to
+pub gives_ok : (r : Result Changes EditFault) (diff : Changes) (by_schema by_board : Result Changes EditFault) → by_schema ≡ by_board → r ≡ Ok diff → Gives OutOfMemory (λ d. d) r by_schema → Some diff ≡ result_ok by_board
+gives_ok r diff by_schema by_board same is given =
+    let got : by_schema ≡ Ok diff = subst (λ x. Gives OutOfMemory (λ d. d) x by_schema) is given in
+    ap result_ok (sym got) ∙ ap result_ok same
+
+pub gives_err : (r : Result Changes EditFault) (fault : EditFault) (by_schema by_board : Result Changes EditFault) → by_schema ≡ by_board → r ≡ Err fault → ¬ (fault ≡ OutOfMemory) → Gives OutOfMemory (λ d. d) r by_schema → None ≡ result_ok by_board
+gives_err r fault by_schema by_board same is other given =
+    let got : by_schema ≡ Err fault = subst (λ x. Gives OutOfMemory (λ d. d) x by_schema) is given other in
+    ap result_ok (sym got) ∙ ap result_ok same

@@ -1,0 +1,123 @@
+//! What the schema of recordings decides: which records are admitted, which ids are the document's, and what edits do.
+ghost use Rattle.std.specs.Prelude.{◌≡◌, ◌↔◌, [], IfOk, IsTrue, OnOk};
+ghost use Rattle.rooms_val.specs.View.{data_of};
+ghost use Rattle.room_model.specs.Documents.{step};
+ghost use Rattle.schema_core.specs.SchemaOf.{schema_tree};
+ghost use Rattle.rooms.specs.Rules.{HasTypes, is_admitted, is_document, completes};
+
+use doc_store::{MapDoc, TxnFault, apply};
+use field_ops::Diff;
+use rooms_val::{Mem, OutOfMemory, Steps, Val};
+use schema_core::{Schema, Scope};
+use side_effects::{EditFault, complete};
+use std::alloc::Global;
+use std::marker::Model;
+use std::sync::ledger::Ledger;
+use tl_tables::{TableFault, schema_at};
+
+/// The version of the records that recordings have.
+const VERSION: u32 = 3;
+
+/// The schema of that version. Contracts see nothing of it, since it is always the same.
+#[derive(Drop)]
+pub struct Rules {
+    schema: Schema,
+}
+
+impl Model for Rules {
+    ghost use Rattle.std.specs.Prelude.{◌≡◌};
+
+    ghost Value = { Unit {0} };
+
+    ghost use Rattle.schema_core.specs.SchemaOf.{schema_tree};
+    ghost use Rattle.rooms.specs.Rules.{HasTypes};
+
+    ghost view = { λ r. tt };
+
+    ghost invariant = { λ r. HasTypes (schema_tree r.schema) };
+}
+
+impl Rules {
+    /// The rules of the version.
+    pub fn new(alloc: Global) -> Mem<Rules> {
+        match schema_at(alloc, VERSION) {
+            Ok(schema) => Ok(Rules { schema }),
+            Err(TableFault::NoSuchVersion) => unreachable!(),
+            Err(TableFault::OutOfMemory) => Err(OutOfMemory),
+        }
+    }
+
+    /// Whether a record is admitted under an id.
+    #[tactic(auto, unfolding(crate::specs::Rules::is_admitted))]
+    pub(crate) fn admits(&self, id: &str, record_: &Val) -> bool
+        ensures { result ≡ is_admitted id.now (data_of record_.now) }
+    {
+        self.schema.admits(id, record_).is_ok()
+    }
+
+    /// Whether an id is one of the document's.
+    #[tactic(auto, unfolding(crate::specs::Rules::is_document))]
+    pub(crate) fn is_document(&self, id: &str) -> bool
+        ensures { result ≡ is_document id.now }
+    {
+        match self.schema.scope_of(id) {
+            Some(scope) => match scope {
+                Scope::Document => true,
+                Scope::Session => false,
+                Scope::Presence => false,
+            },
+            None => false,
+        }
+    }
+
+    /// The diff to which an edit of a document is completed, or `None` where it is refused.
+    #[tactic(auto, unfolding(crate::specs::Rules::completes))]
+    pub(crate) fn complete(
+        &self,
+        alloc: Global,
+        document: &MapDoc,
+        wanted: &Diff,
+    ) -> Mem<Option<Diff>>
+        ensures { IfOk result (λ diff. diff ≡ completes document.now.0 wanted.now) }
+    {
+        match complete(alloc, &self.schema, document, wanted) {
+            Ok(diff) => Ok(Some(diff)),
+            Err(fault) => if is_want_of_memory(&fault) {
+                Err(OutOfMemory)
+            } else {
+                Ok(None)
+            },
+        }
+    }
+
+    /// Does a diff to a document outside transactions: what of it acts.
+    #[tactic(auto, unfolding(crate::specs::Rules::is_admitted))]
+    pub(crate) fn apply<L: Ledger>(
+        &self,
+        alloc: Global,
+        document: &mut MapDoc,
+        diff: &Diff,
+        steps: &mut Steps<L>,
+    ) -> Mem<()>
+        requires { document.old.1 ≡ [] }
+        ensures { OnOk result (document.new ≡ (step is_admitted document.old.0 diff.now, [])) }
+    {
+        match apply(document, alloc, &self.schema, diff, steps) {
+            Ok(_) => Ok(()),
+            Err(TxnFault::TooNested) => unreachable!(),
+            Err(TxnFault::OutOfMemory) => Err(OutOfMemory),
+        }
+    }
+}
+
+fn is_want_of_memory(fault: &EditFault) -> bool
+    ensures { IsTrue result ↔ (fault.now ≡ EditFault.OutOfMemory) }
+{
+    match fault {
+        EditFault::OutOfMemory => true,
+        EditFault::TooMany => false,
+        EditFault::WrongScope(_) => false,
+        EditFault::NoRecord(_) => false,
+        EditFault::Invalid(_, _) => false,
+    }
+}
