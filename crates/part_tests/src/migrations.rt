@@ -168,7 +168,7 @@ fn stepping(
 }
 
 /// Asserts what a record is after a plan up.
-fn raises(
+pub(crate) fn raises(
     rt: &impl Abort,
     alloc: Global,
     sequences: &Sequences,
@@ -183,7 +183,7 @@ fn raises(
 }
 
 /// Asserts what a record is after a plan down.
-fn lowers(
+pub(crate) fn lowers(
     rt: &impl Abort,
     alloc: Global,
     sequences: &Sequences,

@@ -427,7 +427,10 @@ fn reads_versions(rt: HostRuntime) -> Result<(), Fail> {
         match Serialized::read(alloc, &value(alloc, text)?) {
             Ok(versions) => {
                 assert!(rt; *is_read, "at {text}");
-                assert_eq!(rt; printed(alloc, &versions.val(alloc)?)?.as_str(), *text);
+                assert_eq!(rt;
+                    printed(alloc, &versions.copy(alloc)?.val(alloc)?)?.as_str(),
+                    *text
+                );
             }
             Err(fault) => {
                 assert!(rt; !*is_read, "at {text}");
