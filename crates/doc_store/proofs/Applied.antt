@@ -3,11 +3,11 @@ use Rattle.std.proofs.Common.{◌≡◌, ℕ, List, ◌∷◌, Bool, true, false
 use Rattle.std.specs.Option.{is_some, option_and_then}
 use Rattle.rooms_val.specs.Data.{Data, Pairs}
 use Rattle.rooms_val.specs.Maps.{get}
-use Rattle.field_ops.specs.Changes.{Change, Changes}
+use Rattle.field_ops.specs.RecordOps.{RecordOpTree, RecordOps}
 use Rattle.field_ops.specs.Entries.{AreRising, value_at, set_at}
 use Rattle.field_ops.specs.Patched.{raw}
-use Rattle.field_ops.specs.Inverted.{inverse}
-use Rattle.field_ops.specs.ViewChanges.{change_of, changes_view}
+use Rattle.field_ops.specs.Inverses.{inverse}
+use Rattle.field_ops.specs.ViewRecordOps.{change_of, changes_view}
 use Rattle.field_ops.specs.declared.record_op.RecordOp.{RecordOp}
 use Rattle.field_ops.proofs.ForRoomsVal.{ties, ties_same, order_itself, at-seen}
 use Rattle.room_model.specs.Documents.{acts_on, acts, stepped}
@@ -22,7 +22,7 @@ pub untouched_here : {X : Type 0} (e : List ℕ × X) (left : List (List ℕ × 
 untouched_here e left now first same = same e.0 (ap (λ o. is_some (cond (is_eq o) (Some e.1) (value_at left e.0))) (order_itself e.0))
 
 module _ (admits : List ℕ → Data → Bool) where
-  pub untouched_next : {X : Type 0} (e : List ℕ × X) (left : List (List ℕ × X)) (now first : Pairs) (c : Change) → AreRising (e ∷ left) → Untouched (e ∷ left) now first → Untouched left (stepped admits now e.0 c) first
+  pub untouched_next : {X : Type 0} (e : List ℕ × X) (left : List (List ℕ × X)) (now first : Pairs) (c : RecordOpTree) → AreRising (e ∷ left) → Untouched (e ∷ left) now first → Untouched left (stepped admits now e.0 c) first
   untouched_next e left now first c rising same = λ q there.
       elim (ties q e.0) as (λ t. ties q e.0 ≡ t → get (stepped admits now e.0 c) q ≡ get first q) [
         | true ↦ λ is.
@@ -34,21 +34,21 @@ module _ (admits : List ℕ → Data → Bool) where
       ] refl
 
   -- what an id gives to the inverse: what undoes its operation
-  abbrev pub gives : Pairs → List ℕ → Option ℕ → Option RecordOp → Option Change
+  abbrev pub gives : Pairs → List ℕ → Option ℕ → Option RecordOp → Option RecordOpTree
   gives first q _ op = option_and_then (λ o. undone_on admits q (change_of o) (get first q)) op
 
   seen_first : (q : List ℕ) (first : Pairs) (o : Option RecordOp) → option_and_then (λ x. undone_on admits q (change_of x) (get first q)) o ≡ option_and_then (λ c. undone_on admits q c (get first q)) (option_map change_of o)
   seen_first q first None = refl
   seen_first q first (Some x) = refl
 
-  pub gives_all : (s : List (List ℕ × RecordOp)) (diff : Changes) (first : Pairs) → changes_view s ≡ diff → (q : List ℕ) → gives first q None (value_at s q) ≡ value_at (inverse_diff admits first diff) q
+  pub gives_all : (s : List (List ℕ × RecordOp)) (diff : RecordOps) (first : Pairs) → changes_view s ≡ diff → (q : List ℕ) → gives first q None (value_at s q) ≡ value_at (inverse_diff admits first diff) q
   gives_all s diff first seen q =
       seen_first q first (value_at s q)
       ∙ ap (option_and_then (λ c. undone_on admits q c (get first q))) (sym (at-seen change_of s q) ∙ ap (λ es. value_at es q) seen)
       ∙ sym (at-inverse_diff admits first diff q)
 
   -- an operation that acts on what was found
-  module _ (m : Pairs) (id : List ℕ) (c : Change) (r : Option Data) (found : r ≡ get m id) (acting : acts_on admits id c r ≡ true) where
+  module _ (m : Pairs) (id : List ℕ) (c : RecordOpTree) (r : Option Data) (found : r ≡ get m id) (acting : acts_on admits id c r ≡ true) where
     acts_there : acts admits m id c ≡ true
     acts_there = ap (acts_on admits id c) (sym found) ∙ acting
 

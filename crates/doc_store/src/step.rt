@@ -3,7 +3,7 @@ ghost use Rattle.std.specs.Prelude.{◌≡◌, ◌+◌, ◌≤◌, ◌↔◌, le
 ghost use Rattle.std.specs.Option.{option_copied};
 ghost use Rattle.field_ops.specs.Entries.{added};
 ghost use Rattle.field_ops.specs.View.{maybe_data};
-ghost use Rattle.field_ops.specs.ViewChanges.{change_of, maybe_change};
+ghost use Rattle.field_ops.specs.ViewRecordOps.{change_of, maybe_change};
 ghost use Rattle.field_ops.specs.Patched.{raw};
 ghost use Rattle.schema_core.specs.Admits.{is_admitted};
 ghost use Rattle.schema_core.specs.SchemaOf.{schema_tree};

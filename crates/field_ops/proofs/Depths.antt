@@ -1,12 +1,12 @@
 -- What stands under a key of a patch is no deeper than the patch.
 use Rattle.std.proofs.Common.{◌≡◌, ℕ, zero, suc, ◌<◌, ◌≤◌, length, get_or, true, false, cond, not, List, [], ◌∷◌, Option, Some, None, sym, subst, arith}
 use Rattle.field_ops.specs.Entries.{value_at, without_key, IsTaken}
-use Rattle.field_ops.specs.Edits.{Edit, edits_of, edit_depth, edits_depth}
+use Rattle.field_ops.specs.ValueOps.{ValueOpTree, edits_of, edit_depth, edits_depth}
 use Rattle.field_ops.specs.View.{edit_of, patch_view, maybe_edit}
 use Rattle.field_ops.specs.declared.value_op.ValueOp.{ValueOp}
 use Rattle.field_ops.proofs.ForRoomsVal.{ties}
 
-abbrev pub maybe_depth : Option Edit → ℕ
+abbrev pub maybe_depth : Option ValueOpTree → ℕ
 maybe_depth None = 0
 maybe_depth (Some e) = edit_depth e
 

@@ -4,4 +4,4 @@ pub mod Soundness
 pub mod Depths
 pub mod ByKey
 pub mod Sent
-pub mod Turns
+pub mod ComposeLemmas

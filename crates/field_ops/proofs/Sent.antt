@@ -4,18 +4,18 @@ use Rattle.rooms_val.specs.Data.{Data, null, list, map, whole, depth, member, It
 use Rattle.rooms_val.proofs.Views.{pairs_of-members_of}
 use Rattle.rooms_val.specs.View.{data_of, items_view, pairs_view}
 use Rattle.rooms_val.specs.declared.val.Val.{Val}
-use Rattle.field_ops.specs.Edits.{Edit, put, patch, append, delete, Edits, no_edits, edit_at, edits_of, patch_of, Patch, IsSoundEdit, AreSoundEdits, IsSoundPatch}
-use Rattle.field_ops.specs.Changes as change
+use Rattle.field_ops.specs.ValueOps.{ValueOpTree, put, patch, append, delete, ValueOpTrees, no_edits, edit_at, edits_of, patch_of, Patch, IsSoundEdit, AreSoundEdits, IsSoundPatch}
+use Rattle.field_ops.specs.RecordOps as change
 use Rattle.field_ops.specs.Entries.{AreRising, value_at}
 use Rattle.field_ops.specs.View.{edit_of, patch_view}
-use Rattle.field_ops.specs.ViewChanges.{change_of, changes_view}
+use Rattle.field_ops.specs.ViewRecordOps.{change_of, changes_view}
 use Rattle.field_ops.specs.declared.value_op.ValueOp.{ValueOp}
 use Rattle.field_ops.specs.declared.record_op.RecordOp.{RecordOp}
 use Rattle.field_ops.proofs.ForRoomsVal.{at-seen, rising-seen, option_map-after}
 use Rattle.field_ops.specs.Wire.{named, edit_data, edits_data, patch_pairs, list_of-items_of}
-use Rattle.field_ops.specs.WireChanges.{change_data, change_in, change_in-change_data, diff_pairs}
+use Rattle.field_ops.specs.WireRecordOps.{change_data, change_in, change_in-change_data, diff_pairs}
 
-pub edits_of-patch_of : (es : Edits) → edits_of (patch_of es) ≡ es
+pub edits_of-patch_of : (es : ValueOpTrees) → edits_of (patch_of es) ≡ es
 edits_of-patch_of no_edits = refl
 edits_of-patch_of (edit_at k e es) = ap (λ rest. edit_at k e rest) (edits_of-patch_of es)
 
@@ -35,13 +35,13 @@ two_letters : (n : ℕ) → n ≡ 97 → n ≡ 100 → ⊥
 two_letters n a b = omega arith
 
 module _ (d : Data) (vs : List Data) where
-  pub no_put : d ≡ named (codes "put") (items_of vs) → ((x : Data) → vs ≡ x ∷ [] → ⊥) → (e : Edit) → d ≡ edit_data e → ⊥
+  pub no_put : d ≡ named (codes "put") (items_of vs) → ((x : Data) → vs ≡ x ∷ [] → ⊥) → (e : ValueOpTree) → d ≡ edit_data e → ⊥
   no_put from never (put x) is = let same : items_of vs ≡ item x no_items = cc in never x (same_list vs (x ∷ []) same)
   no_put from never (patch es) is = cc
   no_put from never (append ds n) is = cc
   no_put from never delete is = cc
 
-  pub no_patch : d ≡ named (codes "patch") (items_of vs) → ((p : Patch) → IsSoundPatch p → vs ≡ map (edits_data (edits_of p)) ∷ [] → ⊥) → (e : Edit) → IsSoundEdit e → d ≡ edit_data e → ⊥
+  pub no_patch : d ≡ named (codes "patch") (items_of vs) → ((p : Patch) → IsSoundPatch p → vs ≡ map (edits_data (edits_of p)) ∷ [] → ⊥) → (e : ValueOpTree) → IsSoundEdit e → d ≡ edit_data e → ⊥
   no_patch from never (put x) sound is = cc
   no_patch from never (patch es) sound is =
       let same : items_of vs ≡ item (map (edits_data es)) no_items = cc in
@@ -49,7 +49,7 @@ module _ (d : Data) (vs : List Data) where
   no_patch from never (append ds n) sound is = cc
   no_patch from never delete sound is = cc
 
-  pub no_append : d ≡ named (codes "append") (items_of vs) → ((ds : List Data) (n : ℕ) → n < 2 ^ 32 → vs ≡ list (items_of ds) ∷ whole (pos n) ∷ [] → ⊥) → (e : Edit) → IsSoundEdit e → d ≡ edit_data e → ⊥
+  pub no_append : d ≡ named (codes "append") (items_of vs) → ((ds : List Data) (n : ℕ) → n < 2 ^ 32 → vs ≡ list (items_of ds) ∷ whole (pos n) ∷ [] → ⊥) → (e : ValueOpTree) → IsSoundEdit e → d ≡ edit_data e → ⊥
   no_append from never (put x) sound is = cc
   no_append from never (patch es) sound is = cc
   no_append from never (append ds n) sound is =
@@ -57,26 +57,26 @@ module _ (d : Data) (vs : List Data) where
       never ds n sound.1 (same_list vs (list (items_of ds) ∷ whole (pos n) ∷ []) same)
   no_append from never delete sound is = two_letters (letter d) (ap letter from) (ap letter is)
 
-  pub no_delete : d ≡ named (codes "delete") (items_of vs) → (vs ≡ [] → ⊥) → (e : Edit) → d ≡ edit_data e → ⊥
+  pub no_delete : d ≡ named (codes "delete") (items_of vs) → (vs ≡ [] → ⊥) → (e : ValueOpTree) → d ≡ edit_data e → ⊥
   no_delete from never (put x) is = cc
   no_delete from never (patch es) is = cc
   no_delete from never (append ds n) is = two_letters (letter d) (ap letter is) (ap letter from)
   no_delete from never delete is = let same : items_of vs ≡ no_items = cc in never (same_list vs [] same)
 
-  pub no_remove : d ≡ named (codes "remove") (items_of vs) → (vs ≡ [] → ⊥) → (c : change.Change) → d ≡ change_data c → ⊥
+  pub no_remove : d ≡ named (codes "remove") (items_of vs) → (vs ≡ [] → ⊥) → (c : change.RecordOpTree) → d ≡ change_data c → ⊥
   no_remove from never (change.put x) is = cc
   no_remove from never (change.patch p) is = cc
   no_remove from never change.remove is = let same : items_of vs ≡ no_items = cc in never (same_list vs [] same)
 
 -- a value that is a list of none of the names
 pub no_name : (d : Data) → ((ds : Items) → d ≡ named (codes "put") ds → ⊥) → ((ds : Items) → d ≡ named (codes "patch") ds → ⊥) → ((ds : Items) → d ≡ named (codes "append") ds → ⊥) → ((ds : Items) → d ≡ named (codes "delete") ds → ⊥)
-    → (e : Edit) → d ≡ edit_data e → ⊥
+    → (e : ValueOpTree) → d ≡ edit_data e → ⊥
 no_name d a b c e (put x) is = a _ is
 no_name d a b c e (patch es) is = b _ is
 no_name d a b c e (append ds n) is = c _ is
 no_name d a b c e delete is = e _ is
 
-pub no_change : (d : Data) → ((ds : Items) → d ≡ named (codes "remove") ds → ⊥) → ((e : Edit) → IsSoundEdit e → d ≡ edit_data e → ⊥) → (c : change.Change) → change.IsSoundChange c → d ≡ change_data c → ⊥
+pub no_change : (d : Data) → ((ds : Items) → d ≡ named (codes "remove") ds → ⊥) → ((e : ValueOpTree) → IsSoundEdit e → d ≡ edit_data e → ⊥) → (c : change.RecordOpTree) → change.IsSoundChange c → d ≡ change_data c → ⊥
 no_change d none never (change.put x) sound is = never (put x) sound is
 no_change d none never (change.patch p) sound is = never (patch (edits_of p)) sound is
 no_change d none never change.remove sound is = none _ is
@@ -126,15 +126,15 @@ later [] = []
 later (p ∷ ps) = ps
 
 -- a map with a value that no operation is sent by is the map of no patch
-pub no_entry : (s : List (List ℕ × Val)) (i : ℕ) (x : List ℕ × Val) → i < length s → x ≡ get_or s i x → ((e : Edit) → IsSoundEdit e → data_of x.1 ≡ edit_data e → ⊥)
+pub no_entry : (s : List (List ℕ × Val)) (i : ℕ) (x : List ℕ × Val) → i < length s → x ≡ get_or s i x → ((e : ValueOpTree) → IsSoundEdit e → data_of x.1 ≡ edit_data e → ⊥)
     → (p : Patch) → AreSoundEdits (edits_of p) → pairs_view s ≡ patch_pairs p → ⊥
 no_entry [] i x within here never p sound is = absurd (omega arith)
 no_entry (y ∷ s) i x within here never [] sound is = cc
 no_entry (y ∷ s) zero x within here never (e ∷ p) sound is = never e.1 sound.0 (ap (λ z. data_of z.1) here ∙ ap value_of_first is)
 no_entry (y ∷ s) (suc i) x within here never (e ∷ p) sound is = no_entry s i x (omega arith) here never p sound.1 (ap later is)
 
-pub no_record : (s : List (List ℕ × Val)) (i : ℕ) (x : List ℕ × Val) → i < length s → x ≡ get_or s i x → ((c : change.Change) → change.IsSoundChange c → data_of x.1 ≡ change_data c → ⊥)
-    → (cs : change.Changes) → change.AreSoundChanges cs → pairs_view s ≡ diff_pairs cs → ⊥
+pub no_record : (s : List (List ℕ × Val)) (i : ℕ) (x : List ℕ × Val) → i < length s → x ≡ get_or s i x → ((c : change.RecordOpTree) → change.IsSoundChange c → data_of x.1 ≡ change_data c → ⊥)
+    → (cs : change.RecordOps) → change.AreSoundChanges cs → pairs_view s ≡ diff_pairs cs → ⊥
 no_record [] i x within here never cs sound is = absurd (omega arith)
 no_record (y ∷ s) i x within here never [] sound is = cc
 no_record (y ∷ s) zero x within here never (c ∷ cs) sound is = never c.1 sound.0 (ap (λ z. data_of z.1) here ∙ ap value_of_first is)
@@ -145,16 +145,16 @@ depth_entry [] i x within here = absurd (omega arith)
 depth_entry (y ∷ s) zero x within here = rw here (omega arith)
 depth_entry (y ∷ s) (suc i) x within here = omega (arith, depth_entry s i x (omega arith) here)
 
-pub one_change : (a b : change.Change) → change_data a ≡ change_data b → a ≡ b
+pub one_change : (a b : change.RecordOpTree) → change_data a ≡ change_data b → a ≡ b
 one_change a b is = sym (change_in-change_data a) ∙ ap change_in is ∙ change_in-change_data b
 
-abbrev changes_in : Pairs → change.Changes
+abbrev changes_in : Pairs → change.RecordOps
 changes_in [] = []
 changes_in (p ∷ ps) = (p.0, change_in p.1) ∷ changes_in ps
 
-changes_in-diff_pairs : (cs : change.Changes) → changes_in (diff_pairs cs) ≡ cs
+changes_in-diff_pairs : (cs : change.RecordOps) → changes_in (diff_pairs cs) ≡ cs
 changes_in-diff_pairs [] = refl
 changes_in-diff_pairs (c ∷ cs) = λ i. (c.0, change_in-change_data c.1 i) ∷ changes_in-diff_pairs cs i
 
-pub one_diff : (a b : change.Changes) → map (members_of (diff_pairs a)) ≡ map (members_of (diff_pairs b)) → a ≡ b
+pub one_diff : (a b : change.RecordOps) → map (members_of (diff_pairs a)) ≡ map (members_of (diff_pairs b)) → a ≡ b
 one_diff a b is = sym (changes_in-diff_pairs a) ∙ ap changes_in (same_map (diff_pairs a) (diff_pairs b) is) ∙ changes_in-diff_pairs b

@@ -2,7 +2,7 @@
 use Rattle.std.specs.Prelude.{◌≤◌, ℕ, suc, max, List, [], ◌∷◌}
 use Rattle.std.proofs.Common.{arith}
 use denote.Param.Weighed.{most}
-use Rattle.field_ops.specs.Edits.{edit_depth, edits_of, edits_depth}
+use Rattle.field_ops.specs.ValueOps.{edit_depth, edits_of, edits_depth}
 use Rattle.field_ops.specs.View.{edit_of, patch_view}
 use Rattle.field_ops.specs.declared.value_op.ValueOp.{ValueOp}
 use Rattle.field_ops.specs.declared.value_op.ValueOp.TheVariants.{Put, Patch, Append, Delete}

@@ -2,8 +2,8 @@
 use Rattle.std.specs.Prelude.{ℕ, List, ◌++◌, length, nat_eq, if◌then◌else◌, Option, Some, None, option_map}
 use Rattle.rooms_val.specs.Data.{Data, null, boolean, whole, text, list, map, Pairs, items_of, list_of, members_of, pairs_of}
 use Rattle.field_ops.specs.Entries.{value_at, set_at}
-use Rattle.field_ops.specs.Edits.{Edit, put, patch, append, delete, Edits, no_edits, edit_at, edits_of}
-use Rattle.field_ops.specs.Changes as change
+use Rattle.field_ops.specs.ValueOps.{ValueOpTree, put, patch, append, delete, ValueOpTrees, no_edits, edit_at, edits_of}
+use Rattle.field_ops.specs.RecordOps as change
 
 -- a map changed; what is no map stays
 abbrev pub on_map : (Pairs → Pairs) → Data → Data
@@ -25,24 +25,24 @@ appended ds n (map ms) = map ms
 
 abbrev mutual
   -- what an operation makes of the value at a key, or of no value
-  pub edited : Edit → Option Data → Option Data
+  pub edited : ValueOpTree → Option Data → Option Data
   edited (put d) old = Some d
   edited (patch es) old = option_map (on_map (λ f. patched es f)) old
   edited (append ds n) old = option_map (appended ds n) old
   edited delete old = None
 
   -- the map with each key that a patch names set to what its operation makes of the key's value
-  pub patched : Edits → Pairs → Pairs
+  pub patched : ValueOpTrees → Pairs → Pairs
   patched no_edits f = f
   patched (edit_at k e es) f = set_at (patched es f) k (edited e (value_at f k))
 
 -- what a key's value becomes where perhaps an operation names the key
-abbrev pub value_after : Option Edit → Option Data → Option Data
+abbrev pub value_after : Option ValueOpTree → Option Data → Option Data
 value_after None old = old
 value_after (Some e) old = edited e old
 
 -- what a record, or no record, becomes under an operation
-abbrev pub raw : change.Change → Option Data → Option Data
+abbrev pub raw : change.RecordOpTree → Option Data → Option Data
 raw (change.put d) r = Some d
 raw (change.patch p) r = option_map (on_map (λ f. patched (edits_of p) f)) r
 raw change.remove r = None

@@ -4,11 +4,11 @@ use Rattle.std.specs.Prelude as std
 use Rattle.rooms_val.specs.Data.{Data}
 use Rattle.rooms_val.specs.View.{data_of}
 use Rattle.rooms_val.specs.declared.val.Val.{Val}
-use Rattle.field_ops.specs.Edits.{Edit, put, patch, append, delete, edits_of, Patch}
+use Rattle.field_ops.specs.ValueOps.{ValueOpTree, put, patch, append, delete, edits_of, Patch}
 use Rattle.field_ops.specs.declared.value_op.ValueOp.{ValueOp}
 use Rattle.field_ops.specs.declared.value_op.ValueOp.TheVariants as v
 
-abbrev pub edit_of : ValueOp → Edit
+abbrev pub edit_of : ValueOp → ValueOpTree
 edit_of (v.Put val) = put (data_of val)
 edit_of (v.Patch p) = patch (edits_of p)
 edit_of (v.Append ds n) = append ds n
@@ -22,5 +22,5 @@ abbrev pub maybe_data : Option Val → Option Data
 maybe_data o = option_map data_of o
 
 -- the operation, where there is one
-abbrev pub maybe_edit : Option ValueOp → Option Edit
+abbrev pub maybe_edit : Option ValueOp → Option ValueOpTree
 maybe_edit o = option_map edit_of o

@@ -5,7 +5,7 @@ use Rattle.std.specs.Coded.{Coded, code_by, coded×, coded_list, coded_ℕ}
 use mathlib.Core.Path.{ap}
 use Rattle.rooms_val.specs.Data.{Data, null, boolean, whole, text, list, map, Items, no_items, item, Members, no_members, member, items_of, list_of, Pairs}
 use Rattle.rooms_val.specs.Code.{coded_data}
-use Rattle.field_ops.specs.Edits.{Edit, put, patch, append, delete, Edits, no_edits, edit_at, Patch}
+use Rattle.field_ops.specs.ValueOps.{ValueOpTree, put, patch, append, delete, ValueOpTrees, no_edits, edit_at, Patch}
 
 -- the list of a name and what follows it
 abbrev pub named : List ℕ → Items → Data
@@ -13,14 +13,14 @@ named name ds = list (item (text name) ds)
 
 abbrev mutual
   -- the value of an operation on a value
-  pub edit_data : Edit → Data
+  pub edit_data : ValueOpTree → Data
   edit_data (put d) = named (codes "put") (item d no_items)
   edit_data (patch es) = named (codes "patch") (item (map (edits_data es)) no_items)
   edit_data (append ds n) = named (codes "append") (item (list (items_of ds)) (item (whole (pos n)) no_items))
   edit_data delete = named (codes "delete") no_items
 
   -- the map of a patch
-  pub edits_data : Edits → Members
+  pub edits_data : ValueOpTrees → Members
   edits_data no_edits = no_members
   edits_data (edit_at k e es) = member k (edit_data e) (edits_data es)
 
@@ -34,13 +34,13 @@ number_in (negsuc n) = 0
 
 abbrev mutual
   -- the operation that a value is, where it is one
-  pub edit_in : Data → Edit
+  pub edit_in : Data → ValueOpTree
   edit_in (list (item (text name) (item (map ms) no_items))) = if nat_eq (length name) 5 then patch (edits_in ms) else put (map ms)
   edit_in (list (item name (item d no_items))) = put d
   edit_in (list (item name (item (list ds) (item (whole z) no_items)))) = append (list_of ds) (number_in z)
   edit_in d = delete
 
-  pub edits_in : Members → Edits
+  pub edits_in : Members → ValueOpTrees
   edits_in no_members = no_edits
   edits_in (member k d ms) = edit_at k (edit_in d) (edits_in ms)
 
@@ -59,17 +59,17 @@ put_in (map ms) = refl
 
 -- each value is that of one operation at most
 abbrev mutual
-  pub edit_in-edit_data : (e : Edit) → edit_in (edit_data e) ≡ e
+  pub edit_in-edit_data : (e : ValueOpTree) → edit_in (edit_data e) ≡ e
   edit_in-edit_data (put d) = put_in d
   edit_in-edit_data (patch es) = ap patch (edits_in-edits_data es)
   edit_in-edit_data (append ds n) = ap (λ l. append l n) (list_of-items_of ds)
   edit_in-edit_data delete = refl
 
-  pub edits_in-edits_data : (es : Edits) → edits_in (edits_data es) ≡ es
+  pub edits_in-edits_data : (es : ValueOpTrees) → edits_in (edits_data es) ≡ es
   edits_in-edits_data no_edits = refl
   edits_in-edits_data (edit_at k e es) = λ i. edit_at k (edit_in-edit_data e i) (edits_in-edits_data es i)
 
-abbrev pub coded_edit : Coded Edit
+abbrev pub coded_edit : Coded ValueOpTree
 coded_edit = code_by Data coded_data edit_data edit_in edit_in-edit_data
 
 abbrev pub coded_patch : Coded Patch

@@ -3,9 +3,9 @@ ghost use Rattle.std.specs.Prelude.{◌≡◌, ◌++◌, IfOk, OnOk};
 ghost use Rattle.std.specs.Option.{option_copied};
 ghost use Rattle.rooms_val.specs.View.{data_of};
 ghost use Rattle.field_ops.specs.Entries.{added};
-ghost use Rattle.field_ops.specs.Edits.{edits_of};
+ghost use Rattle.field_ops.specs.ValueOps.{edits_of};
 ghost use Rattle.field_ops.specs.View.{maybe_data, maybe_edit};
-ghost use Rattle.field_ops.specs.ViewChanges.{change_of};
+ghost use Rattle.field_ops.specs.ViewRecordOps.{change_of};
 ghost use Rattle.field_ops.specs.Patched.{on_map, appended, patched, value_after, raw};
 
 use crate::object_diff::ObjectDiff;

@@ -14,14 +14,14 @@ pub struct Diff {
 }
 
 impl Model for Diff {
-    ghost use Rattle.field_ops.specs.Changes.{Changes, IsSoundDiff};
-    ghost use Rattle.field_ops.specs.WireChanges.{coded_changes};
+    ghost use Rattle.field_ops.specs.RecordOps.{RecordOps, IsSoundDiff};
+    ghost use Rattle.field_ops.specs.WireRecordOps.{coded_changes};
 
-    ghost Value = { Changes };
+    ghost Value = { RecordOps };
 
     ghost coded = { coded_changes };
 
-    ghost use Rattle.field_ops.specs.ViewChanges.{changes_view};
+    ghost use Rattle.field_ops.specs.ViewRecordOps.{changes_view};
 
     ghost view = { λ d. changes_view d.entries.items };
 
@@ -29,11 +29,11 @@ impl Model for Diff {
 }
 
 impl Diff {
-    ghost use Rattle.field_ops.specs.Changes.{Changes, IsSoundDiff};
+    ghost use Rattle.field_ops.specs.RecordOps.{RecordOps, IsSoundDiff};
     ghost use Rattle.rooms_val.specs.View.{data_of};
-    ghost use Rattle.field_ops.specs.WireChanges.{diff_data, diff_pairs};
+    ghost use Rattle.field_ops.specs.WireRecordOps.{diff_data, diff_pairs};
     ghost use Rattle.field_ops.specs.Entries.{value_at, with_key};
-    ghost use Rattle.field_ops.specs.ViewChanges.{change_of, changes_view};
+    ghost use Rattle.field_ops.specs.ViewRecordOps.{change_of, changes_view};
 
     /// The diff that names no id.
     pub fn new(alloc: Global) -> Diff
@@ -111,7 +111,7 @@ impl Diff {
     /// `OutOfMemory`.
     pub(crate) fn read(alloc: Global, val: &Val) -> Result<Diff, OpFault>
         ensures found { IfOk result (λ d. data_of val.now ≡ diff_data d) }
-        ensures only { result ≡ Err OpFault.WrongKind → (cs : Changes) → IsSoundDiff cs → ¬ (data_of val.now ≡ diff_data cs) }
+        ensures only { result ≡ Err OpFault.WrongKind → (cs : RecordOps) → IsSoundDiff cs → ¬ (data_of val.now ≡ diff_data cs) }
     {
         match val {
             Val::Map(fields) => Ok(Diff::read_fields(alloc, fields)?),
@@ -121,7 +121,7 @@ impl Diff {
 
     fn read_fields(alloc: Global, fields: &Fields) -> Result<Diff, OpFault>
         ensures found { IfOk result (λ d. fields.now ≡ diff_pairs d) }
-        ensures only { result ≡ Err OpFault.WrongKind → (cs : Changes) → IsSoundDiff cs → ¬ (fields.now ≡ diff_pairs cs) }
+        ensures only { result ≡ Err OpFault.WrongKind → (cs : RecordOps) → IsSoundDiff cs → ¬ (fields.now ≡ diff_pairs cs) }
     {
         let mut diff = Diff::new(alloc);
         for (id, val) in fields.as_slice() {

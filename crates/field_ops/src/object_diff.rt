@@ -16,7 +16,7 @@ pub struct ObjectDiff {
 
 impl Model for ObjectDiff {
     ghost use Rattle.std.specs.Prelude.{List, suc};
-    ghost use Rattle.field_ops.specs.Edits.{Patch, edits_of, edits_depth, IsSoundPatch};
+    ghost use Rattle.field_ops.specs.ValueOps.{Patch, edits_of, edits_depth, IsSoundPatch};
     ghost use Rattle.field_ops.specs.Wire.{coded_patch};
 
     ghost Value = { Patch };
@@ -37,7 +37,7 @@ impl Model for ObjectDiff {
 }
 
 impl ObjectDiff {
-    ghost use Rattle.field_ops.specs.Edits.{Patch, edits_of, edits_have_append, IsSoundPatch};
+    ghost use Rattle.field_ops.specs.ValueOps.{Patch, edits_of, edits_have_append, IsSoundPatch};
     ghost use Rattle.field_ops.specs.Wire.{patch_pairs};
     ghost use Rattle.field_ops.specs.Entries.{added, value_at, with_key};
     ghost use Rattle.field_ops.specs.View.{edit_of, maybe_edit, patch_view};

@@ -19,10 +19,10 @@ pub enum RecordOp {
 }
 
 impl RecordOp {
-    ghost use Rattle.field_ops.specs.Changes.{Change, change_name, has_append, IsSoundChange};
+    ghost use Rattle.field_ops.specs.RecordOps.{RecordOpTree, change_name, has_append, IsSoundChange};
     ghost use Rattle.rooms_val.specs.View.{data_of};
-    ghost use Rattle.field_ops.specs.WireChanges.{change_data};
-    ghost use Rattle.field_ops.specs.ViewChanges.{change_of};
+    ghost use Rattle.field_ops.specs.WireRecordOps.{change_data};
+    ghost use Rattle.field_ops.specs.ViewRecordOps.{change_of};
 
     /// Its name: `put`, `patch` or `remove`.
     pub fn name(&self) -> &'static str
@@ -46,7 +46,7 @@ impl RecordOp {
     /// operation, or `OutOfMemory`.
     pub(crate) fn read(alloc: Global, val: &Val) -> Result<RecordOp, OpFault>
         ensures found { IfOk result (λ op. data_of val.now ≡ change_data (change_of op)) }
-        ensures only { result ≡ Err OpFault.WrongKind → (c : Change) → IsSoundChange c → ¬ (data_of val.now ≡ change_data c) }
+        ensures only { result ≡ Err OpFault.WrongKind → (c : RecordOpTree) → IsSoundChange c → ¬ (data_of val.now ≡ change_data c) }
     {
         if let Some(args) = arguments(val, "remove") {
             return if args.is_empty() {

@@ -2,7 +2,7 @@
 ghost use Rattle.std.specs.Prelude.{◌≡◌, ◌<◌, ◌^◌, ◌∷◌, [], List, ℕ, pos, IfOk, IfErr};
 ghost use Rattle.rooms_val.specs.Data.{Data, items_of, list, map, whole};
 ghost use Rattle.rooms_val.specs.View.{data_of, items_view};
-ghost use Rattle.field_ops.specs.Edits.{Edit, Patch, edits_of, IsSoundPatch};
+ghost use Rattle.field_ops.specs.ValueOps.{ValueOpTree, Patch, edits_of, IsSoundPatch};
 ghost use Rattle.field_ops.specs.Wire.{edit_data, edits_data};
 
 use crate::object_diff::ObjectDiff;
@@ -25,7 +25,7 @@ pub enum ValueOp {
 }
 
 impl ValueOp {
-    ghost use Rattle.field_ops.specs.Edits.{edit_name, edit_has_append, IsSoundEdit};
+    ghost use Rattle.field_ops.specs.ValueOps.{edit_name, edit_has_append, IsSoundEdit};
     ghost use Rattle.field_ops.specs.View.{edit_of};
 
     /// Its name: `put`, `patch`, `append` or `delete`.
@@ -74,7 +74,7 @@ impl ValueOp {
     #[cycle(read)]
     pub(crate) fn read(alloc: Global, val: &Val) -> Result<ValueOp, OpFault>
         ensures found { IfOk result (λ op. data_of val.now ≡ edit_data (edit_of op)) }
-        ensures only { result ≡ Err OpFault.WrongKind → (e : Edit) → IsSoundEdit e → ¬ (data_of val.now ≡ edit_data e) }
+        ensures only { result ≡ Err OpFault.WrongKind → (e : ValueOpTree) → IsSoundEdit e → ¬ (data_of val.now ≡ edit_data e) }
     {
         if let Some(args) = arguments(val, "put") {
             let val = single(args)?;

@@ -5,10 +5,10 @@
 //! and `["delete"]`. A diff is a map from ids to record operations.
 ghost use Rattle.std.specs.Prelude.{◌≡◌, IfOk};
 ghost use Rattle.rooms_val.specs.View.{data_of};
-ghost use Rattle.field_ops.specs.Changes as change;
-ghost use Rattle.field_ops.specs.Changes.{Change, Changes, IsSoundChange, IsSoundDiff};
-ghost use Rattle.field_ops.specs.ViewChanges.{change_of};
-ghost use Rattle.field_ops.specs.WireChanges.{change_data, diff_data};
+ghost use Rattle.field_ops.specs.RecordOps as change;
+ghost use Rattle.field_ops.specs.RecordOps.{RecordOpTree, RecordOps, IsSoundChange, IsSoundDiff};
+ghost use Rattle.field_ops.specs.ViewRecordOps.{change_of};
+ghost use Rattle.field_ops.specs.WireRecordOps.{change_data, diff_data};
 
 use crate::diff::Diff;
 use crate::record_op::RecordOp;
@@ -32,7 +32,7 @@ pub fn diff_val(alloc: Global, diff: &Diff) -> Mem<Val>
 /// The operation of a value. `WrongKind` exactly where the value is that of no operation, or `OutOfMemory`.
 pub fn read_op(alloc: Global, val: &Val) -> Result<RecordOp, OpFault>
     ensures found { IfOk result (λ op. data_of val.now ≡ change_data (change_of op)) }
-    ensures only { result ≡ Err OpFault.WrongKind → (c : Change) → IsSoundChange c → ¬ (data_of val.now ≡ change_data c) }
+    ensures only { result ≡ Err OpFault.WrongKind → (c : RecordOpTree) → IsSoundChange c → ¬ (data_of val.now ≡ change_data c) }
 {
     RecordOp::read(alloc, val)
 }
@@ -40,7 +40,7 @@ pub fn read_op(alloc: Global, val: &Val) -> Result<RecordOp, OpFault>
 /// The diff of a value. `WrongKind` exactly where the value is that of no diff, or `OutOfMemory`.
 pub fn read_diff(alloc: Global, val: &Val) -> Result<Diff, OpFault>
     ensures found { IfOk result (λ d. data_of val.now ≡ diff_data d) }
-    ensures only { result ≡ Err OpFault.WrongKind → (cs : Changes) → IsSoundDiff cs → ¬ (data_of val.now ≡ diff_data cs) }
+    ensures only { result ≡ Err OpFault.WrongKind → (cs : RecordOps) → IsSoundDiff cs → ¬ (data_of val.now ≡ diff_data cs) }
 {
     Diff::read(alloc, val)
 }

@@ -2,7 +2,7 @@
 use Rattle.std.proofs.Common.{◌≡◌, ℕ, suc, ◌+◌, ◌≤◌, ◌<◌, ◌==◌, Bool, true, false, cond, T, List, [], ◌∷◌, ◌++◌, length, map, Option, Some, None, refl, sym, ap, subst, ◌∙◌, arith, append_assoc, append-nil}
 use Rattle.std.proofs.lemmas.Bool.Decides.{nat_tests}
 use Rattle.rooms_val.specs.Data.{Data, Pairs}
-use Rattle.field_ops.specs.Changes.{Change, put, patch, remove, Changes}
+use Rattle.field_ops.specs.RecordOps.{RecordOpTree, put, patch, remove, RecordOps}
 use Rattle.field_ops.specs.Entries.{AreRising, set_at, with_key}
 use Rattle.field_ops.specs.Patched.{raw}
 use Rattle.field_ops.proofs.ForRoomsVal.{rising-with_key, rising-without_key}
@@ -24,7 +24,7 @@ rising-set_at : (ps : Pairs) (k : List ℕ) (o : Option Data) → AreRising ps �
 rising-set_at ps k None h = rising-without_key ps k h
 rising-set_at ps k (Some d) h = rising-with_key ps k d h
 
-rising-folded : (document : Pairs) (diff : Changes) → AreRising document → AreRising (folded document diff)
+rising-folded : (document : Pairs) (diff : RecordOps) → AreRising document → AreRising (folded document diff)
 rising-folded document [] h = h
 rising-folded document (c ∷ diff) h = rising-folded (set_at document c.0 (raw c.1 (get document c.0))) diff (rising-set_at document c.0 (raw c.1 (get document c.0)) h)
 
@@ -38,7 +38,7 @@ rising-document_of h = rising-folded_all [] h tt
 
 module _ (admits : List ℕ → Data → Bool) where
   -- what is accepted makes of the document what the whole diff does
-  pub folded-accepted : (document : Pairs) (diff : Changes) → folded document (accepted admits document diff) ≡ step admits document diff
+  pub folded-accepted : (document : Pairs) (diff : RecordOps) → folded document (accepted admits document diff) ≡ step admits document diff
   folded-accepted document [] = refl
   folded-accepted document (c ∷ diff) =
       let next = set_at document c.0 (raw c.1 (get document c.0)) in
@@ -48,7 +48,7 @@ module _ (admits : List ℕ → Data → Bool) where
       ]
 
   -- and so does a step by it
-  pub step-accepted : (document : Pairs) (diff : Changes) → step admits document (accepted admits document diff) ≡ step admits document diff
+  pub step-accepted : (document : Pairs) (diff : RecordOps) → step admits document (accepted admits document diff) ≡ step admits document diff
   step-accepted document [] = refl
   step-accepted document (c ∷ diff) =
       let next = set_at document c.0 (raw c.1 (get document c.0)) in
@@ -57,7 +57,7 @@ module _ (admits : List ℕ → Data → Bool) where
         | false ↦ λ t. step-accepted document diff
       ] refl
 
-  at_most : (document : Pairs) (diff : Changes) → length (accepted admits document diff) ≤ length diff
+  at_most : (document : Pairs) (diff : RecordOps) → length (accepted admits document diff) ≤ length diff
   at_most document [] = omega arith
   at_most document (c ∷ diff) =
       let next = set_at document c.0 (raw c.1 (get document c.0)) in
@@ -67,7 +67,7 @@ module _ (admits : List ℕ → Data → Bool) where
       ]
 
   -- as much as the whole diff is the whole diff
-  pub all_accepted : (document : Pairs) (diff : Changes) → length (accepted admits document diff) ≡ length diff → accepted admits document diff ≡ diff
+  pub all_accepted : (document : Pairs) (diff : RecordOps) → length (accepted admits document diff) ≡ length diff → accepted admits document diff ≡ diff
   all_accepted document [] = λ all. refl
   all_accepted document (c ∷ diff) =
       let next = set_at document c.0 (raw c.1 (get document c.0)) in

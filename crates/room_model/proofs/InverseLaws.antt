@@ -3,16 +3,16 @@ use Rattle.std.proofs.Common.{◌≡◌, ℕ, List, [], ◌∷◌, Bool, true, f
 use Rattle.std.specs.Option.{option_map_or, option_and_then}
 use Rattle.rooms_val.specs.Data.{Data, Pairs, map, members_of, AreSoundMembers, IsSound}
 use Rattle.rooms_val.specs.Maps.{get}
-use Rattle.field_ops.specs.Edits.{Patch, edits_of}
-use Rattle.field_ops.specs.Changes as change
-use Rattle.field_ops.specs.Changes.{Change, Changes}
+use Rattle.field_ops.specs.ValueOps.{Patch, edits_of}
+use Rattle.field_ops.specs.RecordOps as change
+use Rattle.field_ops.specs.RecordOps.{RecordOpTree, RecordOps}
 use Rattle.field_ops.specs.Entries.{AreRising, value_at, set_at}
 use Rattle.field_ops.specs.Patched.{raw, on_map, patched}
-use Rattle.field_ops.specs.Inverted.{inverse, patch_back}
+use Rattle.field_ops.specs.Inverses.{inverse, patch_back}
 use Rattle.field_ops.specs.Laws.{IsSoundRecord}
 use Rattle.field_ops.proofs.ForRoomsVal.{ties, by_tie, order_itself, at-set_at, at-without_key, rising-set_at, rising_rest, taken_first, same_pairs}
 use Rattle.field_ops.proofs.Soundness.{rising_fields}
-use Rattle.field_ops.proofs.Turns.{brings_back}
+use Rattle.field_ops.proofs.ComposeLemmas.{brings_back}
 use Rattle.room_model.specs.Documents.{acts_on, acts, stepped, step}
 use Rattle.room_model.specs.Inverses.{record_after, undoing, inverse_diff, ArePatchedAdmitted}
 
@@ -27,25 +27,25 @@ none_later e es rising =
 
 module _ (admits : List ℕ → Data → Bool) where
   -- what undoes an operation on a record
-  abbrev pub undone_on : List ℕ → Change → Option Data → Option Change
+  abbrev pub undone_on : List ℕ → RecordOpTree → Option Data → Option RecordOpTree
   undone_on id c r = cond (acts_on admits id c r) (inverse c r) None
 
-  pub at-stepped : (m : Pairs) (id q : List ℕ) (c : Change) → get (stepped admits m id c) q ≡ cond (ties q id) (record_after admits id (Some c) (get m id)) (get m q)
+  pub at-stepped : (m : Pairs) (id q : List ℕ) (c : RecordOpTree) → get (stepped admits m id c) q ≡ cond (ties q id) (record_after admits id (Some c) (get m id)) (get m q)
   at-stepped m id q c =
       elim (acts_on admits id c (get m id)) as (λ b. get (cond b (set_at m id (raw c (get m id))) m) q ≡ cond (ties q id) (cond b (raw c (get m id)) (get m id)) (get m q)) [
         | true ↦ at-set_at m id q (raw c (get m id))
         | false ↦ by_tie (λ t. get m q ≡ cond t (get m id) (get m q)) q id (λ same. ap (get m) same) refl
       ]
 
-  rising-stepped : (m : Pairs) (id : List ℕ) (c : Change) → AreRising m → AreRising (stepped admits m id c)
+  rising-stepped : (m : Pairs) (id : List ℕ) (c : RecordOpTree) → AreRising m → AreRising (stepped admits m id c)
   rising-stepped m id c rising = elim (acts admits m id c) as (λ b. AreRising (cond b (set_at m id (raw c (get m id))) m)) [ true ↦ rising-set_at m id _ rising | false ↦ rising ]
 
-  pub rising-step : (diff : Changes) (m : Pairs) → AreRising m → AreRising (step admits m diff)
+  pub rising-step : (diff : RecordOps) (m : Pairs) → AreRising m → AreRising (step admits m diff)
   rising-step [] m rising = rising
   rising-step (c ∷ diff) m rising = rising-step diff (stepped admits m c.0 c.1) (rising-stepped m c.0 c.1 rising)
 
   -- a step does to each record what the diff has for its id
-  pub at-step : (diff : Changes) (m : Pairs) (q : List ℕ) → AreRising diff → get (step admits m diff) q ≡ record_after admits q (value_at diff q) (get m q)
+  pub at-step : (diff : RecordOps) (m : Pairs) (q : List ℕ) → AreRising diff → get (step admits m diff) q ≡ record_after admits q (value_at diff q) (get m q)
   at-step [] m q rising = refl
   at-step (c ∷ diff) m q rising =
       at-step diff (stepped admits m c.0 c.1) q (rising_rest c diff rising)
@@ -55,11 +55,11 @@ module _ (admits : List ℕ → Data → Bool) where
       ap (λ o. record_after admits q o (record_after admits c.0 (Some c.1) (get m c.0))) (ap (value_at diff) same ∙ none_later c diff rising)
       ∙ ap (λ id. record_after admits id (Some c.1) (get m id)) (sym same)) refl
 
-  pub rising-inverse_diff : (m : Pairs) (diff : Changes) → AreRising (inverse_diff admits m diff)
+  pub rising-inverse_diff : (m : Pairs) (diff : RecordOps) → AreRising (inverse_diff admits m diff)
   rising-inverse_diff m [] = tt
   rising-inverse_diff m (c ∷ diff) = rising-set_at (inverse_diff admits m diff) c.0 (undoing admits m c.0 c.1) (rising-inverse_diff m diff)
 
-  pub at-inverse_diff : (m : Pairs) (diff : Changes) (q : List ℕ) → value_at (inverse_diff admits m diff) q ≡ option_and_then (λ c. undone_on q c (get m q)) (value_at diff q)
+  pub at-inverse_diff : (m : Pairs) (diff : RecordOps) (q : List ℕ) → value_at (inverse_diff admits m diff) q ≡ option_and_then (λ c. undone_on q c (get m q)) (value_at diff q)
   at-inverse_diff m [] q = refl
   at-inverse_diff m (c ∷ diff) q =
       at-set_at (inverse_diff admits m diff) c.0 q (undoing admits m c.0 c.1)
@@ -67,7 +67,7 @@ module _ (admits : List ℕ → Data → Bool) where
       (λ same. ap (λ id. undone_on id c.1 (get m id)) (sym same)) (at-inverse_diff m diff q)
 
   -- a record under an operation and then under what undoes it, where a patched one was admitted
-  back : (q : List ℕ) (o : Option Change) (r : Option Data) → IsSoundRecord r → ((p : Patch) → o ≡ Some (change.patch p) → acts_on admits q (change.patch p) r ≡ true → option_map_or (admits q) r false ≡ true)
+  back : (q : List ℕ) (o : Option RecordOpTree) (r : Option Data) → IsSoundRecord r → ((p : Patch) → o ≡ Some (change.patch p) → acts_on admits q (change.patch p) r ≡ true → option_map_or (admits q) r false ≡ true)
       → record_after admits q (option_and_then (λ c. undone_on q c r) o) (record_after admits q o r) ≡ r
   back q None r sound was = refl
   back q (Some (change.put d)) None sound was = refl
@@ -85,7 +85,7 @@ module _ (admits : List ℕ → Data → Bool) where
         | false ↦ λ is. refl
       ] refl
 
-  pub step-inverse_diff : (m : Pairs) (diff : Changes) → IsSound (map (members_of m)) → AreRising diff → ArePatchedAdmitted admits m diff → step admits (step admits m diff) (inverse_diff admits m diff) ≡ m
+  pub step-inverse_diff : (m : Pairs) (diff : RecordOps) → IsSound (map (members_of m)) → AreRising diff → ArePatchedAdmitted admits m diff → step admits (step admits m diff) (inverse_diff admits m diff) ≡ m
   step-inverse_diff m diff sound rising was =
       let rises = rising_fields m sound in
       same_pairs _ m (rising-step (inverse_diff admits m diff) (step admits m diff) (rising-step diff m rises)) rises (λ q.

@@ -9,16 +9,16 @@ use Rattle.std.proofs.lemmas.Bool.Decides.{nat_tests}
 use Rattle.std.proofs.lemmas.Slice.Eq.{bytes_eq-Decides}
 use Rattle.rooms_val.specs.Data as value
 use Rattle.rooms_val.specs.Data.{Data, Items, Members, Pairs, list_of, items_of, IsSound, AreSoundItems, AreSoundMembers, members_of, pairs_of, has_rising_keys}
-use Rattle.field_ops.specs.Edits as edit
-use Rattle.field_ops.specs.Edits.{Edit, Edits, patch_of}
-use Rattle.field_ops.specs.Edits.{edits_of as edits_in_patch, IsSoundEdit, AreSoundEdits}
+use Rattle.field_ops.specs.ValueOps as edit
+use Rattle.field_ops.specs.ValueOps.{ValueOpTree, ValueOpTrees, patch_of}
+use Rattle.field_ops.specs.ValueOps.{edits_of as edits_in_patch, IsSoundEdit, AreSoundEdits}
 use Rattle.field_ops.specs.Entries.{AreRising}
-use Rattle.field_ops.specs.Changes as change
-use Rattle.field_ops.specs.Changes.{Change, Changes, IsSoundChange, AreSoundChanges, IsSoundDiff}
+use Rattle.field_ops.specs.RecordOps as change
+use Rattle.field_ops.specs.RecordOps.{RecordOpTree, RecordOps, IsSoundChange, AreSoundChanges, IsSoundDiff}
 use Rattle.field_ops.proofs.Sent.{edits_of-patch_of}
 use Rattle.rooms_val.proofs.Views.{pairs_of-members_of}
 use Rattle.field_ops.specs.Wire.{edit_data, edits_data, list_of-items_of}
-use Rattle.field_ops.specs.WireChanges.{change_data, diff_pairs, patch_of-edits_of}
+use Rattle.field_ops.specs.WireRecordOps.{change_data, diff_pairs, patch_of-edits_of}
 use Rattle.room_model.specs.Readings.{if_named, append_of, edit_of, edits_of, change_of, changes_of}
 
 -- ---- what is printed is read
@@ -37,13 +37,13 @@ append_again ds n fits =
     rw (small, list_of-items_of ds)
 
 mutual
-  pub edit_again : (e : Edit) → IsSoundEdit e → edit_of (edit_data e) ≡ Some e
+  pub edit_again : (e : ValueOpTree) → IsSoundEdit e → edit_of (edit_data e) ≡ Some e
   edit_again (edit.put d) sound = put_again d
   edit_again (edit.patch es) sound = ap (λ o. option_map edit.patch o) (edits_again es sound.1)
   edit_again (edit.append ds n) sound = append_again ds n sound.1
   edit_again edit.delete sound = refl
 
-  pub edits_again : (es : Edits) → AreSoundEdits es → edits_of (edits_data es) ≡ Some es
+  pub edits_again : (es : ValueOpTrees) → AreSoundEdits es → edits_of (edits_data es) ≡ Some es
   edits_again edit.no_edits sound = refl
   edits_again (edit.edit_at k e es) sound = rw (edit_again e sound.0, edits_again es sound.1)
 
@@ -55,12 +55,12 @@ change_put_again (value.text s) = refl
 change_put_again (value.list ds) = refl
 change_put_again (value.map ms) = refl
 
-change_again : (c : Change) → IsSoundChange c → change_of (change_data c) ≡ Some c
+change_again : (c : RecordOpTree) → IsSoundChange c → change_of (change_data c) ≡ Some c
 change_again (change.put d) sound = change_put_again d
 change_again (change.patch p) sound = rw (edits_again (edits_in_patch p) sound.1, patch_of-edits_of p)
 change_again change.remove sound = refl
 
-pub changes_again : (cs : Changes) → AreSoundChanges cs → changes_of (diff_pairs cs) ≡ Some cs
+pub changes_again : (cs : RecordOps) → AreSoundChanges cs → changes_of (diff_pairs cs) ≡ Some cs
 changes_again [] sound = refl
 changes_again (c ∷ cs) sound = rw (change_again c.1 sound.0, changes_again cs sound.1)
 
@@ -97,7 +97,7 @@ items_again : (ds : Items) → items_of (list_of ds) ≡ ds
 items_again value.no_items = refl
 items_again (value.item d ds) = ap (value.item d) (items_again ds)
 
-append_read : (name : List ℕ) (ds : Items) (n : ℕ) (e : Edit) → AreSoundItems ds → append_of name (value.list ds) (value.whole (pos n)) ≡ Some e
+append_read : (name : List ℕ) (ds : Items) (n : ℕ) (e : ValueOpTree) → AreSoundItems ds → append_of name (value.list ds) (value.whole (pos n)) ≡ Some e
     → (value.list (value.item (value.text name) (value.item (value.list ds) (value.item (value.whole (pos n)) value.no_items))) ≡ edit_data e) × IsSoundEdit e
 append_read name ds n e sound = elim (nat_lt n (2 ^ 32)) as (λ b. nat_lt n (2 ^ 32) ≡ b → cond b (if_named (codes "append") name (Some (edit.append (list_of ds) n))) None ≡ Some e
     → (value.list (value.item (value.text name) (value.item (value.list ds) (value.item (value.whole (pos n)) value.no_items))) ≡ edit_data e) × IsSoundEdit e) [
@@ -113,39 +113,39 @@ append_read name ds n e sound = elim (nat_lt n (2 ^ 32)) as (λ b. nat_lt n (2 ^
     ] refl
 
 -- a one-part operation, by its name
-part_is : (name given : List ℕ) (d : Data) (e : Edit) → name ≡ given → edit_data e ≡ value.list (value.item (value.text given) (value.item d value.no_items)) → value.list (value.item (value.text name) (value.item d value.no_items)) ≡ edit_data e
+part_is : (name given : List ℕ) (d : Data) (e : ValueOpTree) → name ≡ given → edit_data e ≡ value.list (value.item (value.text given) (value.item d value.no_items)) → value.list (value.item (value.text name) (value.item d value.no_items)) ≡ edit_data e
 part_is name given d e is printed = ap (λ n. value.list (value.item (value.text n) (value.item d value.no_items))) is ∙ sym printed
 
-put_read : (name : List ℕ) (d : Data) (e : Edit) → IsSound d → if_named (codes "put") name (Some (edit.put d)) ≡ Some e → (value.list (value.item (value.text name) (value.item d value.no_items)) ≡ edit_data e) × IsSoundEdit e
+put_read : (name : List ℕ) (d : Data) (e : ValueOpTree) → IsSound d → if_named (codes "put") name (Some (edit.put d)) ≡ Some e → (value.list (value.item (value.text name) (value.item d value.no_items)) ≡ edit_data e) × IsSoundEdit e
 put_read name d e sound h =
     let p = if_named_is (codes "put") name (Some (edit.put d)) e h in
     let is : edit.put d ≡ e = (let same = p.1 in cc) in
     subst (λ x. (value.list (value.item (value.text name) (value.item d value.no_items)) ≡ edit_data x) × IsSoundEdit x) is (part_is name (codes "put") d (edit.put d) p.0 refl, sound)
 
-delete_read : (name : List ℕ) (e : Edit) → if_named (codes "delete") name (Some edit.delete) ≡ Some e → (value.list (value.item (value.text name) value.no_items) ≡ edit_data e) × IsSoundEdit e
+delete_read : (name : List ℕ) (e : ValueOpTree) → if_named (codes "delete") name (Some edit.delete) ≡ Some e → (value.list (value.item (value.text name) value.no_items) ≡ edit_data e) × IsSoundEdit e
 delete_read name e h =
     let p = if_named_is (codes "delete") name (Some edit.delete) e h in
     let is : edit.delete ≡ e = (let same = p.1 in cc) in
     subst (λ x. (value.list (value.item (value.text name) value.no_items) ≡ edit_data x) × IsSoundEdit x) is (ap (λ n. value.list (value.item (value.text n) value.no_items)) p.0, tt)
 
-append_read_any : (name : List ℕ) (d f : Data) (e : Edit) → IsSound d → append_of name d f ≡ Some e → (value.list (value.item (value.text name) (value.item d (value.item f value.no_items))) ≡ edit_data e) × IsSoundEdit e
+append_read_any : (name : List ℕ) (d f : Data) (e : ValueOpTree) → IsSound d → append_of name d f ≡ Some e → (value.list (value.item (value.text name) (value.item d (value.item f value.no_items))) ≡ edit_data e) × IsSoundEdit e
 append_read_any name (value.list ds) (value.whole (pos n)) e sound h = append_read name ds n e sound h
 append_read_any name d f e sound h = absurd cc
 
 -- the keys of a patch are those of its map
-below_same : (k : List ℕ) (es : Edits) → below_all order k (patch_of es) ≡ below_all order k (pairs_of (edits_data es))
+below_same : (k : List ℕ) (es : ValueOpTrees) → below_all order k (patch_of es) ≡ below_all order k (pairs_of (edits_data es))
 below_same k edit.no_edits = refl
 below_same k (edit.edit_at l e es) = ap (λ b. is_lt (order k l) && b) (below_same k es)
 
-rising_same : (es : Edits) → is_sorted order (patch_of es) ≡ is_sorted order (pairs_of (edits_data es))
+rising_same : (es : ValueOpTrees) → is_sorted order (patch_of es) ≡ is_sorted order (pairs_of (edits_data es))
 rising_same edit.no_edits = refl
 rising_same (edit.edit_at k e es) = λ i. below_same k es i && rising_same es i
 
-patch_keys : (es : Edits) → AreRising (patch_of es) ≡ T (has_rising_keys (pairs_of (edits_data es)))
+patch_keys : (es : ValueOpTrees) → AreRising (patch_of es) ≡ T (has_rising_keys (pairs_of (edits_data es)))
 patch_keys es = ap T (rising_same es)
 
 mutual
-  pub edit_read : (d : Data) (e : Edit) → IsSound d → edit_of d ≡ Some e → (d ≡ edit_data e) × IsSoundEdit e
+  pub edit_read : (d : Data) (e : ValueOpTree) → IsSound d → edit_of d ≡ Some e → (d ≡ edit_data e) × IsSoundEdit e
   edit_read (value.list (value.item (value.text name) value.no_items)) e sound h = delete_read name e h
   edit_read (value.list (value.item (value.text name) (value.item (value.map ms) value.no_items))) e sound h =
       elim (put_or name (Some (edit.put (value.map ms))) (option_map edit.patch (edits_of ms)) e h) [
@@ -168,7 +168,7 @@ mutual
   edit_read (value.list (value.item (value.text name) (value.item d (value.item f value.no_items)))) e sound h = append_read_any name d f e sound.1.0 h
   edit_read d e sound h = absurd cc
 
-  pub edits_read : (ms : Members) (es : Edits) → AreSoundMembers ms → edits_of ms ≡ Some es → (ms ≡ edits_data es) × AreSoundEdits es
+  pub edits_read : (ms : Members) (es : ValueOpTrees) → AreSoundMembers ms → edits_of ms ≡ Some es → (ms ≡ edits_data es) × AreSoundEdits es
   edits_read value.no_members es sound h =
       let is : edit.no_edits ≡ es = cc in
       subst (λ x. (value.no_members ≡ edits_data x) × AreSoundEdits x) is (refl, tt)
@@ -180,22 +180,22 @@ mutual
 
 -- ---- the same of operations on records
 
-change_part_is : (name given : List ℕ) (d : Data) (c : Change) → name ≡ given → change_data c ≡ value.list (value.item (value.text given) (value.item d value.no_items)) → value.list (value.item (value.text name) (value.item d value.no_items)) ≡ change_data c
+change_part_is : (name given : List ℕ) (d : Data) (c : RecordOpTree) → name ≡ given → change_data c ≡ value.list (value.item (value.text given) (value.item d value.no_items)) → value.list (value.item (value.text name) (value.item d value.no_items)) ≡ change_data c
 change_part_is name given d c is printed = ap (λ n. value.list (value.item (value.text n) (value.item d value.no_items))) is ∙ sym printed
 
-record_read : (name : List ℕ) (d : Data) (c : Change) → IsSound d → if_named (codes "put") name (Some (change.put d)) ≡ Some c → (value.list (value.item (value.text name) (value.item d value.no_items)) ≡ change_data c) × IsSoundChange c
+record_read : (name : List ℕ) (d : Data) (c : RecordOpTree) → IsSound d → if_named (codes "put") name (Some (change.put d)) ≡ Some c → (value.list (value.item (value.text name) (value.item d value.no_items)) ≡ change_data c) × IsSoundChange c
 record_read name d c sound h =
     let p = if_named_is (codes "put") name (Some (change.put d)) c h in
     let is : change.put d ≡ c = (let same = p.1 in cc) in
     subst (λ x. (value.list (value.item (value.text name) (value.item d value.no_items)) ≡ change_data x) × IsSoundChange x) is (change_part_is name (codes "put") d (change.put d) p.0 refl, sound)
 
-remove_read : (name : List ℕ) (c : Change) → if_named (codes "remove") name (Some change.remove) ≡ Some c → (value.list (value.item (value.text name) value.no_items) ≡ change_data c) × IsSoundChange c
+remove_read : (name : List ℕ) (c : RecordOpTree) → if_named (codes "remove") name (Some change.remove) ≡ Some c → (value.list (value.item (value.text name) value.no_items) ≡ change_data c) × IsSoundChange c
 remove_read name c h =
     let p = if_named_is (codes "remove") name (Some change.remove) c h in
     let is : change.remove ≡ c = (let same = p.1 in cc) in
     subst (λ x. (value.list (value.item (value.text name) value.no_items) ≡ change_data x) × IsSoundChange x) is (ap (λ n. value.list (value.item (value.text n) value.no_items)) p.0, tt)
 
-change_read : (d : Data) (c : Change) → IsSound d → change_of d ≡ Some c → (d ≡ change_data c) × IsSoundChange c
+change_read : (d : Data) (c : RecordOpTree) → IsSound d → change_of d ≡ Some c → (d ≡ change_data c) × IsSoundChange c
 change_read (value.list (value.item (value.text name) value.no_items)) c sound h = remove_read name c h
 change_read (value.list (value.item (value.text name) (value.item (value.map ms) value.no_items))) c sound h =
     elim (put_or name (Some (change.put (value.map ms))) (option_map (λ es. change.patch (patch_of es)) (edits_of ms)) c h) [
@@ -219,7 +219,7 @@ change_read (value.list (value.item (value.text name) (value.item (value.text s)
 change_read (value.list (value.item (value.text name) (value.item (value.list ds) value.no_items))) c sound h = record_read name (value.list ds) c sound.1.0 h
 change_read d c sound h = absurd cc
 
-changes_read_each : (ps : Pairs) (cs : Changes) → AreSoundMembers (members_of ps) → changes_of ps ≡ Some cs → (ps ≡ diff_pairs cs) × AreSoundChanges cs
+changes_read_each : (ps : Pairs) (cs : RecordOps) → AreSoundMembers (members_of ps) → changes_of ps ≡ Some cs → (ps ≡ diff_pairs cs) × AreSoundChanges cs
 changes_read_each [] cs sound h =
     let is : [] ≡ cs = cc in
     subst (λ x. ([] ≡ diff_pairs x) × AreSoundChanges x) is (refl, tt)
@@ -229,16 +229,16 @@ changes_read_each (p ∷ ps) cs sound h =
     let rest = changes_read_each ps q.1 sound.1 q.3 in
     subst (λ x. (p ∷ ps ≡ diff_pairs x) × AreSoundChanges x) (sym q.4) ((λ i. (p.0, first.0 i) ∷ rest.0 i), (first.1, rest.1))
 
-diff_below : (k : List ℕ) (cs : Changes) → below_all order k cs ≡ below_all order k (diff_pairs cs)
+diff_below : (k : List ℕ) (cs : RecordOps) → below_all order k cs ≡ below_all order k (diff_pairs cs)
 diff_below k [] = refl
 diff_below k (c ∷ cs) = ap (λ b. is_lt (order k c.0) && b) (diff_below k cs)
 
-diff_rising : (cs : Changes) → is_sorted order cs ≡ is_sorted order (diff_pairs cs)
+diff_rising : (cs : RecordOps) → is_sorted order cs ≡ is_sorted order (diff_pairs cs)
 diff_rising [] = refl
 diff_rising (c ∷ cs) = λ i. diff_below c.0 cs i && diff_rising cs i
 
 -- a sound map that is read as operations is the one that they are printed as
-pub changes_read : (ps : Pairs) (cs : Changes) → IsSound (value.map (members_of ps)) → changes_of ps ≡ Some cs → (ps ≡ diff_pairs cs) × IsSoundDiff cs
+pub changes_read : (ps : Pairs) (cs : RecordOps) → IsSound (value.map (members_of ps)) → changes_of ps ≡ Some cs → (ps ≡ diff_pairs cs) × IsSoundDiff cs
 changes_read ps cs sound h =
     let p = changes_read_each ps cs sound.1 h in
     let rising = subst (λ qs. T (is_sorted order qs)) (pairs_of-members_of ps ∙ p.0) sound.0 in

@@ -3,8 +3,8 @@ use Rattle.std.specs.Prelude.{◌≡◌, ℕ, ℤ, List, Option, Some, None, ref
 use Rattle.std.specs.Coded.{Coded, code_by, coded×, coded⊎, coded_list, coded_option, coded_ℕ, coded_ℤ}
 use mathlib.Core.Logic.{inl, inr}
 use mathlib.Core.Path.{ap}
-use Rattle.field_ops.specs.Changes.{Changes}
-use Rattle.field_ops.specs.WireChanges.{coded_changes}
+use Rattle.field_ops.specs.RecordOps.{RecordOps}
+use Rattle.field_ops.specs.WireRecordOps.{coded_changes}
 use Rattle.sync_msgs.specs.Codes.{coded_action}
 use Rattle.sync_msgs.specs.declared.data_event.Action.{Action}
 use Rattle.room_model.specs.Histories.{History}
@@ -23,7 +23,7 @@ coded_author =
 
 abbrev coded_entry : Coded Entry
 coded_entry =
-    code_by (Changes × Option Author) (coded× coded_changes (coded_option coded_author)) (λ e. (e.diff, e.author)) (λ p. record { diff = p.0; author = p.1 }) (λ _. refl)
+    code_by (RecordOps × Option Author) (coded× coded_changes (coded_option coded_author)) (λ e. (e.diff, e.author)) (λ p. record { diff = p.0; author = p.1 }) (λ _. refl)
 
 abbrev pub coded_history : Coded History
 coded_history = coded_list coded_entry

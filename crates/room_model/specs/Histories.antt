@@ -2,7 +2,7 @@
 use Rattle.std.specs.Prelude.{ℕ, ℤ, pos, negsuc, List, [], ◌∷◌, take, Bool, false, ◌==◌, Option, Some, None}
 use Rattle.rooms_val.specs.Data.{Pairs}
 use Rattle.rooms_val.specs.Maps.{get}
-use Rattle.field_ops.specs.Changes.{Changes}
+use Rattle.field_ops.specs.RecordOps.{RecordOps}
 use Rattle.field_ops.specs.Entries.{set_at}
 use Rattle.field_ops.specs.Patched.{raw}
 use Rattle.room_model.specs.declared.history.Author.{Author}
@@ -13,7 +13,7 @@ abbrev pub History : Type 0
 History = List Entry
 
 -- the document with each operation done to its record, admitted or not
-abbrev pub folded : Pairs → Changes → Pairs
+abbrev pub folded : Pairs → RecordOps → Pairs
 folded document [] = document
 folded document (c ∷ diff) = folded (set_at document c.0 (raw c.1 (get document c.0))) diff
 

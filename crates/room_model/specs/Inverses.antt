@@ -3,29 +3,29 @@ use Rattle.std.specs.Prelude.{◌≡◌, ℕ, List, [], ◌∷◌, Bool, true, f
 use Rattle.std.specs.Option.{option_map_or}
 use Rattle.rooms_val.specs.Data.{Data, Pairs}
 use Rattle.rooms_val.specs.Maps.{get}
-use Rattle.field_ops.specs.Edits.{Patch}
-use Rattle.field_ops.specs.Changes.{Change, put, patch, remove, Changes}
+use Rattle.field_ops.specs.ValueOps.{Patch}
+use Rattle.field_ops.specs.RecordOps.{RecordOpTree, put, patch, remove, RecordOps}
 use Rattle.field_ops.specs.Entries.{value_at, set_at}
 use Rattle.field_ops.specs.Patched.{raw}
-use Rattle.field_ops.specs.Inverted.{inverse}
+use Rattle.field_ops.specs.Inverses.{inverse}
 use Rattle.room_model.specs.Documents.{acts_on, acts}
 
 module _ (admits : List ℕ → Data → Bool) where
   -- what stands under an id after an operation on it, if there is one: the operation is done where it acts
-  abbrev pub record_after : List ℕ → Option Change → Option Data → Option Data
+  abbrev pub record_after : List ℕ → Option RecordOpTree → Option Data → Option Data
   record_after id None r = r
   record_after id (Some c) r = if acts_on admits id c r then raw c r else r
 
   -- what undoes an operation on the record that stands under an id; none where the operation is passed over
-  abbrev pub undoing : Pairs → List ℕ → Change → Option Change
+  abbrev pub undoing : Pairs → List ℕ → RecordOpTree → Option RecordOpTree
   undoing document id c = if acts admits document id c then inverse c (get document id) else None
 
   -- the diff that undoes a diff in a document: the ids whose operation acts, each with its inverse on what stood there
-  abbrev pub inverse_diff : Pairs → Changes → Changes
+  abbrev pub inverse_diff : Pairs → RecordOps → RecordOps
   inverse_diff document [] = []
   inverse_diff document (c ∷ diff) = set_at (inverse_diff document diff) c.0 (undoing document c.0 c.1)
 
   -- each record that a patch of the diff changes was admitted under its id
-  abbrev pub ArePatchedAdmitted : Pairs → Changes → Type 0
+  abbrev pub ArePatchedAdmitted : Pairs → RecordOps → Type 0
   ArePatchedAdmitted document diff = (id : List ℕ) (p : Patch) → value_at diff id ≡ Some (patch p) → acts admits document id (patch p) ≡ true
       → option_map_or (admits id) (get document id) false ≡ true

@@ -1,7 +1,7 @@
 -- What a room sends, made from its history.
 use Rattle.std.specs.Prelude.{ℕ, ◌+◌, pos, List, [], ◌∷◌, length, drop, map, if◌then◌else◌, ◌==◌, Option, Some, None}
 use Rattle.rooms_val.specs.Data.{Pairs}
-use Rattle.field_ops.specs.Changes.{put, Changes}
+use Rattle.field_ops.specs.RecordOps.{put, RecordOps}
 use Rattle.room_model.specs.Histories.{History, document_of}
 use Rattle.room_model.specs.declared.history.Author.{Author}
 use Rattle.room_model.specs.declared.history.Entry.{Entry}
@@ -11,7 +11,7 @@ use Rattle.sync_msgs.specs.declared.server_message.ServerMessage.{ServerMessage}
 use Rattle.sync_msgs.specs.declared.server_message.ServerMessage.TheVariants as message
 
 -- the diff that puts each record of a document
-abbrev pub puts_of : Pairs → Changes
+abbrev pub puts_of : Pairs → RecordOps
 puts_of document = map (λ p. (p.0, put p.1)) document
 
 -- the answer to a session that asked to be connected: the whole document, at the room's clock
@@ -19,7 +19,7 @@ abbrev pub answer : List ℕ → History → ServerMessage
 answer request history = message.Connect request (puts_of (document_of history)) (pos (length history))
 
 -- what an entry is to a session, at its clock: the result of its own push, or what others changed
-abbrev pub event_by : ℕ → ℕ → Changes → Option Author → DataEvent
+abbrev pub event_by : ℕ → ℕ → RecordOps → Option Author → DataEvent
 event_by session clock diff None = Patch diff (pos clock)
 event_by session clock diff (Some author) =
     if author.session == session then PushResult author.client_clock (pos clock) author.action else Patch diff (pos clock)

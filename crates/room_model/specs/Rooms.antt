@@ -2,7 +2,7 @@
 use Rattle.std.specs.Prelude.{ℕ, nat_lt, ℤ, List, [], ◌∷◌, ◌++◌, length, Bool, if◌then◌else◌, Option, Some, None, option_map, slice_get, slice_set}
 use Rattle.std.specs.Option.{option_and_then}
 use Rattle.rooms_val.specs.Data.{Data}
-use Rattle.field_ops.specs.Changes.{Changes}
+use Rattle.field_ops.specs.RecordOps.{RecordOps}
 use Rattle.room_model.specs.Histories.{History, document_of}
 use Rattle.room_model.specs.Accepting.{accepted, action_of, are_fit, pushed_diff}
 use Rattle.room_model.specs.Messages.{answer, news}
@@ -52,7 +52,7 @@ after_drain room session = in_phase room session (Live (length room.history))
 
 module _ (admits : List ℕ → Data → Bool) where
   -- the entry of a push: what of its diff is accepted, and what the room makes of the push
-  abbrev pub entry_of : ℕ → ℤ → History → Changes → Entry
+  abbrev pub entry_of : ℕ → ℤ → History → RecordOps → Entry
   entry_of session client_clock history diff =
       let part = accepted admits (document_of history) diff in
       record { diff = part; author = Some (record { session = session; client_clock = client_clock; action = action_of diff part }) }
@@ -60,7 +60,7 @@ module _ (admits : List ℕ → Data → Bool) where
 module _ (in_scope : List ℕ → Bool) (admits : List ℕ → Data → Bool) where
   -- the room after a push, whose entry joins its history; none where it names an id that isn't the document's, or puts a record that
   -- isn't admitted
-  abbrev pub after_push : Room → ℕ → ℤ → Changes → Option Room
+  abbrev pub after_push : Room → ℕ → ℤ → RecordOps → Option Room
   after_push room session client_clock diff =
       if are_fit in_scope admits diff then Some (record room { history = room.history ++ entry_of admits session client_clock room.history diff ∷ [] }) else None
 

@@ -2,7 +2,7 @@
 use Rattle.std.specs.Prelude.{ℕ, ◌+◌, nat_lt, ℤ, pos, negsuc, List, [], ◌∷◌, ◌++◌, length, take, drop, count_by, decimal, Bool, if◌then◌else◌, Option, Some, None, option_map, slice_get, slice_set, unwrap_or}
 use Rattle.std.specs.Option.{option_and_then, option_map_or}
 use Rattle.rooms_val.specs.Data.{Data, Pairs}
-use Rattle.field_ops.specs.Changes.{Changes}
+use Rattle.field_ops.specs.RecordOps.{RecordOps}
 use Rattle.room_model.specs.Documents as documents
 use Rattle.room_model.specs.Histories.{History, document_of, up_to, is_by}
 use Rattle.room_model.specs.Rooms.{Room, empty_room, after_enter, after_message, after_drain, Notice, answer_at, news_between, next_of}
@@ -16,7 +16,7 @@ use Rattle.sync_msgs.specs.declared.client_message.ClientMessage.TheVariants.{Co
 pub record Client : Type 0 where
   pub connection : Connection
   pub reached : ℤ
-  pub owed : List Changes
+  pub owed : List RecordOps
   pub pushes : ℕ
 
 -- what is under way between a session and the room, the oldest first: messages up, and notices down
@@ -42,7 +42,7 @@ abbrev pub most_pushes : ℕ
 most_pushes = 9007199254740991
 
 -- the pushes of diffs in order, numbered on from a count
-abbrev pub pushes_of : ℕ → List Changes → List ClientMessage
+abbrev pub pushes_of : ℕ → List RecordOps → List ClientMessage
 pushes_of count [] = []
 pushes_of count (diff ∷ diffs) = if nat_lt count most_pushes then Push (pos (count + 1)) (Some diff) ∷ pushes_of (count + 1) diffs else []
 
@@ -64,7 +64,7 @@ abbrev pub with_up : World → ℕ → List ClientMessage → World
 with_up world session messages = option_map_or (λ link. with_link world session (record link { up = link.up ++ messages })) (slice_get world.links session) world
 
 -- the world in which a client pushes diffs on its session
-abbrev pub pushing : World → ℕ → Client → ℕ → List Changes → World
+abbrev pub pushing : World → ℕ → Client → ℕ → List RecordOps → World
 pushing world number client session diffs =
     let messages = pushes_of client.pushes diffs in
     with_up (with_client world number (record client { pushes = client.pushes + length messages })) session messages
@@ -126,7 +126,7 @@ abbrev pub after_deliver : World → ℕ → Option World
 after_deliver world number = option_and_then (λ client. option_and_then (delivering_on world number client) (session_of client.connection)) (slice_get world.clients number)
 
 -- a client owes a further diff, and pushes it where it is connected
-abbrev pub owing : World → ℕ → Client → Changes → Connection → World
+abbrev pub owing : World → ℕ → Client → RecordOps → Connection → World
 owing world number client diff Off = with_client world number client
 owing world number client diff (Asking session) = with_client world number client
 owing world number client diff (Open session) = pushing world number client session (diff ∷ [])
@@ -136,14 +136,14 @@ module _ (admits : List ℕ → Data → Bool) where
   abbrev pub held : History → Client → Pairs
   held history client = documents.replayed admits (document_of (up_to client.reached history)) client.owed
 
-  module _ (completes : Pairs → Changes → Option Changes) where
+  module _ (completes : Pairs → RecordOps → Option RecordOps) where
     -- a client edits what it holds, where the edit is completed
-    abbrev pub editing : World → ℕ → Changes → Client → Option World
+    abbrev pub editing : World → ℕ → RecordOps → Client → Option World
     editing world number wanted client =
         option_map (λ diff. owing world number (record client { owed = client.owed ++ diff ∷ [] }) diff client.connection) (completes (held world.room.history client) wanted)
 
     -- the same, where there is that client
-    abbrev pub after_edit : World → ℕ → Changes → Option World
+    abbrev pub after_edit : World → ℕ → RecordOps → Option World
     after_edit world number wanted = option_and_then (editing world number wanted) (slice_get world.clients number)
 
 module _ (in_scope : List ℕ → Bool) (admits : List ℕ → Data → Bool) where

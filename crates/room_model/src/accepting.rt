@@ -1,7 +1,7 @@
 //! Laws of what a room accepts of a push, and of what it sends to a client that connects.
 ghost use Rattle.std.specs.Prelude.{◌≡◌, [], ℕ, List, Bool, length};
 ghost use Rattle.rooms_val.specs.Data.{Data, Pairs};
-ghost use Rattle.field_ops.specs.Changes.{Changes};
+ghost use Rattle.field_ops.specs.RecordOps.{RecordOps};
 ghost use Rattle.room_model.specs.Accepting.{accepted};
 ghost use Rattle.room_model.specs.Documents.{step};
 ghost use Rattle.room_model.specs.Histories.{History, document_of, folded};
@@ -10,11 +10,11 @@ ghost use Rattle.room_model.specs.Messages.{puts_of};
 /// What is accepted of a diff, folded over the document, makes of it what a step by the diff does, and so does a step by
 /// what is accepted. As many operations as the diff has are the whole diff.
 pub fn accepts_what_acts()
-    ensures folded { (admits : List ℕ → Data → Bool) (document : Pairs) (diff : Changes)
+    ensures folded { (admits : List ℕ → Data → Bool) (document : Pairs) (diff : RecordOps)
         → folded document (accepted admits document diff) ≡ step admits document diff }
-    ensures acts { (admits : List ℕ → Data → Bool) (document : Pairs) (diff : Changes)
+    ensures acts { (admits : List ℕ → Data → Bool) (document : Pairs) (diff : RecordOps)
         → step admits document (accepted admits document diff) ≡ step admits document diff }
-    ensures whole { (admits : List ℕ → Data → Bool) (document : Pairs) (diff : Changes)
+    ensures whole { (admits : List ℕ → Data → Bool) (document : Pairs) (diff : RecordOps)
         → length (accepted admits document diff) ≡ length diff → accepted admits document diff ≡ diff }
 {}
 

@@ -4,7 +4,7 @@ use Rattle.std.specs.FinMap.Entries.{below_all}
 use Rattle.rooms_val.proofs.Places.{order, first, second}
 use Rattle.rooms_val.specs.Data.{Data, Pairs}
 use Rattle.rooms_val.specs.Maps.{get}
-use Rattle.field_ops.specs.Changes.{Change, put, Changes}
+use Rattle.field_ops.specs.RecordOps.{RecordOpTree, put, RecordOps}
 use Rattle.field_ops.specs.Entries.{AreRising, set_at, with_key}
 use Rattle.field_ops.specs.Patched.{raw}
 use Rattle.room_model.specs.Accepting.{accepted}
@@ -14,12 +14,12 @@ use Rattle.room_model.proofs.Rising.{put_last, rising_on, rising_without}
 use Rattle.rooms.specs.Clients.{is_admitted}
 
 -- a document and a part that were made so far, and the operations that are left
-pub record Accepts (old : Pairs) (diff : Changes) (document : Pairs) (part left : Changes) : Type 0 where
+pub record Accepts (old : Pairs) (diff : RecordOps) (document : Pairs) (part left : RecordOps) : Type 0 where
   pub document_is : step is_admitted document left ≡ step is_admitted old diff
   pub part_is : part ++ accepted is_admitted document left ≡ accepted is_admitted old diff
   pub rising : AreRising (part ++ left)
 
-pub accepts_next : (old : Pairs) (diff : Changes) (document next : Pairs) (part more : Changes) (k : List ℕ) (c : Change) (left : Changes) → Accepts old diff document part ((k, c) ∷ left)
+pub accepts_next : (old : Pairs) (diff : RecordOps) (document next : Pairs) (part more : RecordOps) (k : List ℕ) (c : RecordOpTree) (left : RecordOps) → Accepts old diff document part ((k, c) ∷ left)
     → next ≡ stepped is_admitted document k c → more ≡ cond (acts is_admitted document k c) (with_key part k c) part → Accepts old diff next more left
 accepts_next old diff document next part more k c left so_far done joined =
     let set = set_at document k (raw c (get document k)) in
@@ -54,11 +54,11 @@ rising-puts_of (p ∷ ps) h = both _ _ (subst T (sym (below-puts_of p.0 ps)) (fi
     both false b p q = p
 
 -- puts that were made so far, and the records that are left
-pub record Puts (ps : Pairs) (diff : Changes) (left : Pairs) : Type 0 where
+pub record Puts (ps : Pairs) (diff : RecordOps) (left : Pairs) : Type 0 where
   pub puts : diff ++ puts_of left ≡ puts_of ps
   pub rising : AreRising (diff ++ puts_of left)
 
-pub puts_next : (ps : Pairs) (diff more : Changes) (k : List ℕ) (d : Data) (left : Pairs) → Puts ps diff ((k, d) ∷ left) → more ≡ with_key diff k (put d) → Puts ps more left
+pub puts_next : (ps : Pairs) (diff more : RecordOps) (k : List ℕ) (d : Data) (left : Pairs) → Puts ps diff ((k, d) ∷ left) → more ≡ with_key diff k (put d) → Puts ps more left
 puts_next ps diff more k d left so_far added =
     let last : more ≡ diff ++ (k, put d) ∷ [] = added ∙ put_last diff k (put d) (puts_of left) so_far.rising in
     record {

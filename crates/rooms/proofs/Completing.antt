@@ -3,7 +3,7 @@ use Rattle.std.proofs.Common.{◌≡◌, ℕ, nat_lt, length, Bool, true, false,
 use Rattle.std.specs.Option.{option_map_or}
 use Rattle.std.specs.Result.{result_ok, result_err}
 use Rattle.rooms_val.specs.Data.{Pairs}
-use Rattle.field_ops.specs.Changes.{Change, put, patch, remove, Changes}
+use Rattle.field_ops.specs.RecordOps.{RecordOpTree, put, patch, remove, RecordOps}
 use Rattle.schema_core.specs.Admits as schema
 use Rattle.schema_core.specs.Admits.{scope_of, admission}
 use Rattle.schema_core.specs.Tree.{SchemaTree}
@@ -16,7 +16,7 @@ use Rattle.room_model.specs.Accepting.{are_fit, puts_admitted}
 use Rattle.rooms.specs.Rules.{whiteboard, is_admitted, is_document, completes}
 
 -- an edit that is completed breaks no rule, and stays as it is
-unbroken : (many : Bool) (scope there result : Option EditFault) (wanted diff : Changes) → result_ok (cond many (Err TooMany) (unless scope (unless there (unless result (Ok wanted))))) ≡ Some diff → (scope ≡ None) × (result ≡ None) × (wanted ≡ diff)
+unbroken : (many : Bool) (scope there result : Option EditFault) (wanted diff : RecordOps) → result_ok (cond many (Err TooMany) (unless scope (unless there (unless result (Ok wanted))))) ≡ Some diff → (scope ≡ None) × (result ≡ None) × (wanted ≡ diff)
 unbroken true scope there result wanted diff is = absurd (cc)
 unbroken false (Some f) there result wanted diff is = absurd (cc)
 unbroken false None (Some f) result wanted diff is = absurd (cc)
@@ -36,12 +36,12 @@ no_fault : (id : List ℕ) (r : Result Scope RecordFault) → option_map (λ fau
 no_fault id (Ok s) is = refl
 no_fault id (Err f) is = absurd (cc)
 
-put_fits : (s : SchemaTree) (m : Pairs) (id : List ℕ) (c : Change) → invalid s m id c ≡ None → puts_admitted (λ i. is_of_document (scope_of s i)) (λ i d. schema.is_admitted s i d) id c ≡ true
+put_fits : (s : SchemaTree) (m : Pairs) (id : List ℕ) (c : RecordOpTree) → invalid s m id c ≡ None → puts_admitted (λ i. is_of_document (scope_of s i)) (λ i d. schema.is_admitted s i d) id c ≡ true
 put_fits s m id (put d) is = no_fault id (admission s id d) is
 put_fits s m id (patch p) is = refl
 put_fits s m id remove is = refl
 
-fit_all : (s : SchemaTree) (m : Pairs) (wanted : Changes) → first_refusal (wrong_scope s) wanted ≡ None → first_refusal (invalid s m) wanted ≡ None → are_fit (λ i. is_of_document (scope_of s i)) (λ i d. schema.is_admitted s i d) wanted ≡ true
+fit_all : (s : SchemaTree) (m : Pairs) (wanted : RecordOps) → first_refusal (wrong_scope s) wanted ≡ None → first_refusal (invalid s m) wanted ≡ None → are_fit (λ i. is_of_document (scope_of s i)) (λ i d. schema.is_admitted s i d) wanted ≡ true
 fit_all s m [] scope result = refl
 fit_all s m (c ∷ wanted) scope result =
     let a = none_first _ _ scope in
@@ -51,7 +51,7 @@ fit_all s m (c ∷ wanted) scope result =
     let others = fit_all s m wanted a.1 b.1 in
     λ i. (here i && fit i) && others i
 
-pub fits : (document : Pairs) (wanted diff : Changes) → completes document wanted ≡ Some diff → are_fit is_document is_admitted diff ≡ true
+pub fits : (document : Pairs) (wanted diff : RecordOps) → completes document wanted ≡ Some diff → are_fit is_document is_admitted diff ≡ true
 unfolding completes is_document is_admitted
 fits document wanted diff is =
     let whole = unbroken (nat_lt 8192 (length wanted)) (first_refusal (wrong_scope whiteboard) wanted) (first_refusal (no_record document) wanted) (first_refusal (invalid whiteboard document) wanted) wanted diff is in

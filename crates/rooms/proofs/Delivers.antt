@@ -7,7 +7,7 @@ use Rattle.std.proofs.lemmas.List.{drop-drop, drop-take}
 use Rattle.std.proofs.lemmas.List.Folds.{list_all-append}
 use Rattle.std.specs.List.{list_all, count_by}
 use Rattle.std.specs.Option.{option_and_then}
-use Rattle.field_ops.specs.Changes.{Changes}
+use Rattle.field_ops.specs.RecordOps.{RecordOps}
 use Rattle.room_model.specs.Accepting.{are_fit}
 use Rattle.room_model.specs.Documents.{step}
 use Rattle.room_model.specs.Histories.{History, document_of, folded_all, up_to, is_by}
@@ -31,15 +31,15 @@ use Rattle.sync_msgs.specs.declared.server_message.ServerMessage.{ServerMessage}
 use Rattle.sync_msgs.specs.declared.server_message.ServerMessage.TheVariants as message
 
 -- what of some diffs is pushed, and what is left where no number is
-record Split (count : ℕ) (diffs : List Changes) : Type 0 where
-  waiting : List Changes
-  left : List Changes
+record Split (count : ℕ) (diffs : List RecordOps) : Type 0 where
+  waiting : List RecordOps
+  left : List RecordOps
   is : diffs ≡ waiting ++ left
   pushed : AllPush waiting (pushes_of count diffs)
   many : length (pushes_of count diffs) ≡ length waiting
   all : count + length (pushes_of count diffs) < most_pushes → left ≡ []
 
-split_pushes : (count : ℕ) (diffs : List Changes) → Split count diffs
+split_pushes : (count : ℕ) (diffs : List RecordOps) → Split count diffs
 split_pushes count [] = record { waiting = []; left = []; is = refl; pushed = tt; many = refl; all = λ room. refl }
 split_pushes count (d ∷ ds) = by_room (nat_lt count most_pushes) refl (split_pushes (count + 1) ds)
   where
@@ -82,7 +82,7 @@ first_comes h phase flow c notice rest session down =
     ap (option_and_then (model.delivering_on (together h phase flow c) 0 c)) session ∙ ap (model.delivering (together h phase flow c) 0 c 0 flow) down
 
 -- the answer comes to a client that waits
-opens_client : (c : Client) (kept now : Holding) (old new : code.Link) (room : Room) (flow : Link) (request : List ℕ) (diff : Changes) (at : _) (rest : List Notice) → room ≡ record { history = []; sessions = Live 0 ∷ [] }
+opens_client : (c : Client) (kept now : Holding) (old new : code.Link) (room : Room) (flow : Link) (request : List ℕ) (diff : RecordOps) (at : _) (rest : List Notice) → room ≡ record { history = []; sessions = Live 0 ∷ [] }
     → Holds [] c kept → c.connection ≡ Asking 0 → c.reached ≡ negsuc 0 → old.up.items ≡ [] → flow.up ≡ [] → flow.down ≡ answer_at 0 ∷ rest → rest ≡ [] → Tells [] 0 (answer_at 0) (message.Connect request diff at) → new.down.items ≡ []
     → Took kept now old new (message.Connect request diff at) → Becomes (model.after_deliver (together [] (Live 0) flow c) 0) room now (Some new)
 opens_client c kept now old new room flow request diff at rest room_is holds asks reached up flow_up flow_down none tells down_none took =
@@ -136,10 +136,10 @@ opens_client c kept now old new room flow request diff at rest room_is holds ask
     )
 
 -- news of n entries come to a connected client: the parts of the history, and of what it owes
-record News (h : History) (c : Client) (from n : ℕ) (more : List Changes) : Type 0 where
+record News (h : History) (c : Client) (from n : ℕ) (more : List RecordOps) : Type 0 where
   entries : History
   entries_are : drop from (take (from + n) h) ≡ entries
-  done : List Changes
+  done : List RecordOps
   owed : c.owed ≡ done ++ more
   settled : AllSettle 0 done entries
   many : length entries ≡ n
@@ -149,7 +149,7 @@ record News (h : History) (c : Client) (from n : ℕ) (more : List Changes) : Ty
   left : drop (authored_between h 0 from (from + n)) c.owed ≡ more
 
 -- what it owes still
-abbrev rest_owed : (h : History) (flow : Link) (c : Client) (mark n : ℕ) → Flows h flow c mark → List Changes
+abbrev rest_owed : (h : History) (flow : Link) (c : Client) (mark n : ℕ) → Flows h flow c mark → List RecordOps
 rest_owed h flow c mark n f = drop n f.answered ++ (f.waiting ++ f.left)
 
 news_parts : (h : History) (flow : Link) (c : Client) (mark n : ℕ) (f : Flows h flow c mark) → f.clock + n ≤ length h → AllActed [] h → News h c f.clock n (rest_owed h flow c mark n f)

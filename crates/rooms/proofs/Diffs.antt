@@ -2,8 +2,8 @@
 use Rattle.std.proofs.Common.{◌≡◌, Some, None, option_and_then, refl, sym, ap, subst, ◌∙◌}
 use Rattle.rooms_val.specs.Data.{Data, null, boolean, whole, text, list, map, Members, no_members, member, members_of, pairs_of, IsSound}
 use Rattle.rooms_val.proofs.Views.{pairs_of-members_of}
-use Rattle.field_ops.specs.Changes.{Changes, IsSoundDiff}
-use Rattle.field_ops.specs.WireChanges.{diff_data, diff_pairs}
+use Rattle.field_ops.specs.RecordOps.{RecordOps, IsSoundDiff}
+use Rattle.field_ops.specs.WireRecordOps.{diff_data, diff_pairs}
 use Rattle.room_model.specs.Readings.{changes_of}
 use Rattle.room_model.proofs.ReadingLaws.{changes_again, changes_read}
 use Rattle.rooms.specs.Forms.{pairs_in}
@@ -13,10 +13,10 @@ members_again no_members = refl
 members_again (member k d ms) = ap (member k d) (members_again ms)
 
 -- a value that is a diff's is read as that diff
-pub read_again : (d : Data) (cs : Changes) → d ≡ diff_data cs → IsSoundDiff cs → Some cs ≡ option_and_then changes_of (pairs_in d)
+pub read_again : (d : Data) (cs : RecordOps) → d ≡ diff_data cs → IsSoundDiff cs → Some cs ≡ option_and_then changes_of (pairs_in d)
 read_again d cs is sound = sym (ap (λ x. option_and_then changes_of (pairs_in x)) is ∙ ap changes_of (pairs_of-members_of (diff_pairs cs)) ∙ changes_again cs sound.1)
 
-not_read_map : (ms : Members) → IsSound (map ms) → ((cs : Changes) → IsSoundDiff cs → map ms ≡ diff_data cs → ⊥) → None ≡ changes_of (pairs_of ms)
+not_read_map : (ms : Members) → IsSound (map ms) → ((cs : RecordOps) → IsSoundDiff cs → map ms ≡ diff_data cs → ⊥) → None ≡ changes_of (pairs_of ms)
 not_read_map ms sound none = elim (changes_of (pairs_of ms)) as (λ o. changes_of (pairs_of ms) ≡ o → None ≡ o) [
   | None ↦ λ e. refl
   | Some cs ↦ λ e.
@@ -25,7 +25,7 @@ not_read_map ms sound none = elim (changes_of (pairs_of ms)) as (λ o. changes_o
 ] refl
 
 -- a value that is no diff's is read as none
-pub not_read : (d : Data) → IsSound d → ((cs : Changes) → IsSoundDiff cs → d ≡ diff_data cs → ⊥) → None ≡ option_and_then changes_of (pairs_in d)
+pub not_read : (d : Data) → IsSound d → ((cs : RecordOps) → IsSoundDiff cs → d ≡ diff_data cs → ⊥) → None ≡ option_and_then changes_of (pairs_in d)
 not_read (map ms) sound none = not_read_map ms sound none
 not_read null sound none = refl
 not_read (boolean b) sound none = refl

@@ -3,7 +3,7 @@ use Rattle.std.proofs.Common.{◌≡◌, ℕ, ◌+◌, ◌<◌, ◌≤◌, nat_l
 use Rattle.std.proofs.Math.Seq.{drop-append_seam}
 use Rattle.std.proofs.lemmas.Bool.Decides.{nat_tests}
 use Rattle.std.proofs.lemmas.List.Folds.{list_all-append}
-use Rattle.field_ops.specs.Changes.{Changes}
+use Rattle.field_ops.specs.RecordOps.{RecordOps}
 use Rattle.room_model.specs.Accepting.{are_fit}
 use Rattle.room_model.specs.Documents.{replayed}
 use Rattle.rooms.proofs.Completing.{fits}
@@ -29,10 +29,10 @@ both_true true b is = (refl, is)
 both_true false b is = absurd (cc)
 
 -- a client that owes a further diff
-abbrev pub with_diff : Client → Changes → Client
+abbrev pub with_diff : Client → RecordOps → Client
 with_diff c diff = record c { owed = c.owed ++ diff ∷ [] }
 
-abbrev pub kept_with : Holding → Changes → Holding
+abbrev pub kept_with : Holding → RecordOps → Holding
 kept_with kept diff = record kept { held = clients.owing kept.held diff }
 
 -- what is shown is what is held
@@ -40,7 +40,7 @@ pub shown_held : (h : History) (c : Client) (kept : Holding) → Holds h c kept 
 shown_held h c kept holds = λ i. replayed is_admitted (holds.base i) (holds.owed i)
 
 -- the same client owes the diff, where it isn't connected
-holds_with : (h : History) (c : Client) (kept : Holding) (diff : Changes) → Holds h c kept → are_fit is_document is_admitted diff ≡ true → ((session : ℕ) → c.connection ≡ Open session → ⊥) → Holds h (with_diff c diff) (kept_with kept diff)
+holds_with : (h : History) (c : Client) (kept : Holding) (diff : RecordOps) → Holds h c kept → are_fit is_document is_admitted diff ≡ true → ((session : ℕ) → c.connection ≡ Open session → ⊥) → Holds h (with_diff c diff) (kept_with kept diff)
 holds_with h c kept diff holds fit closed = record {
   connection = holds.connection;
   base = holds.base;
@@ -66,17 +66,17 @@ up_none kept now old new none up = (
     no_more k = λ i. record { connection = k.connection; held = record k.held { pushed = same k.held.pushed i }; pushes = same k.pushes i }
 
 -- the push of one diff, or none where no number is left
-abbrev pub one_push : ℕ → Changes → Bool → List ClientMessage
+abbrev pub one_push : ℕ → RecordOps → Bool → List ClientMessage
 one_push count diff room = cond room (Push (pos (count + 1)) (Some diff) ∷ []) []
 
 -- a connected client owes a further diff and pushes it
-abbrev pub with_push : Client → Changes → Bool → Client
+abbrev pub with_push : Client → RecordOps → Bool → Client
 with_push c diff room = record c { owed = c.owed ++ diff ∷ []; pushes = c.pushes + length (one_push c.pushes diff room) }
 
 abbrev pub link_with : Link → List ClientMessage → Link
 link_with flow ms = record flow { up = flow.up ++ ms }
 
-flows_with : (h : History) (flow : Link) (c : Client) (mark : ℕ) (diff : Changes) (room : Bool) → nat_lt c.pushes most_pushes ≡ room → Flows h flow c mark → Flows h (link_with flow (one_push c.pushes diff room)) (with_push c diff room) mark
+flows_with : (h : History) (flow : Link) (c : Client) (mark : ℕ) (diff : RecordOps) (room : Bool) → nat_lt c.pushes most_pushes ≡ room → Flows h flow c mark → Flows h (link_with flow (one_push c.pushes diff room)) (with_push c diff room) mark
 flows_with h flow c mark diff true is f =
     let none = f.all (grind (arith, nat_tests, is)) in
     record {
@@ -109,7 +109,7 @@ flows_with h flow c mark diff false is f = record {
   all = λ room. absurd (let full : most_pushes ≤ c.pushes = grind (arith, nat_tests, is) in omega arith);
 }
 
-holds_push : (h : History) (c : Client) (kept : Holding) (diff : Changes) (room : Bool) (session : ℕ) → nat_lt c.pushes most_pushes ≡ room → c.connection ≡ Open session → Holds h c kept → are_fit is_document is_admitted diff ≡ true
+holds_push : (h : History) (c : Client) (kept : Holding) (diff : RecordOps) (room : Bool) (session : ℕ) → nat_lt c.pushes most_pushes ≡ room → c.connection ≡ Open session → Holds h c kept → are_fit is_document is_admitted diff ≡ true
     → Holds h (with_push c diff room) (after_pushes (kept_with kept diff) (length (one_push c.pushes diff room)))
 holds_push h c kept diff room session is open_ holds fit = record {
   connection = holds.connection;
@@ -129,7 +129,7 @@ holds_push h c kept diff room session is open_ holds fit = record {
     count false below some = absurd (let full : most_pushes ≤ c.pushes = grind (arith, nat_tests, below) in omega arith)
 
 -- what the code pushes is the push of that diff
-pushes_one : (h : History) (c : Client) (kept : Holding) (diff : Changes) (room : Bool) (session : ℕ) → nat_lt c.pushes most_pushes ≡ room → c.connection ≡ Open session → Holds h c kept
+pushes_one : (h : History) (c : Client) (kept : Holding) (diff : RecordOps) (room : Bool) (session : ℕ) → nat_lt c.pushes most_pushes ≡ room → c.connection ≡ Open session → Holds h c kept
     → pushes_of kept.pushes (unpushed (kept_with kept diff)) ≡ one_push c.pushes diff room
 pushes_one h c kept diff room session is open_ holds =
     (λ i. pushes_of (holds.pushes i) (unpushed_on ((holds.connection ∙ open_) i) (clients.owing kept.held diff))) ∙ by_room room is
@@ -144,7 +144,7 @@ pushes_one h c kept diff room session is open_ holds =
 abbrev pub Becomes : Option model.World → Room → Holding → Option code.Link → Type 0
 Becomes after room now link = (next : model.World) × (after ≡ Some next) × StandsFor next room (Some now) link
 
-module _ (h : History) (phase : Phase) (flow : Link) (c : Client) (kept : Holding) (wanted diff : Changes) (holds : Holds h c kept) (may : completes (shown kept.held) wanted ≡ Some diff) where
+module _ (h : History) (phase : Phase) (flow : Link) (c : Client) (kept : Holding) (wanted diff : RecordOps) (holds : Holds h c kept) (may : completes (shown kept.held) wanted ≡ Some diff) where
   may_held : completes (held is_admitted h c) wanted ≡ Some diff
   may_held = ap (λ document. completes document wanted) (sym (shown_held h c kept holds)) ∙ may
 
@@ -166,7 +166,7 @@ module _ (h : History) (phase : Phase) (flow : Link) (c : Client) (kept : Holdin
       ∙ ap (λ b. Some (together h phase (link_with flow (one_push c.pushes diff b)) (with_push c diff b))) below
 
 -- an edit of a client that never had a session
-edit_alone : (c : Client) (room : Room) (kept now : Holding) (wanted diff : Changes) → room ≡ empty_room → c.connection ≡ Off → c.reached ≡ negsuc 0 → Holds [] c kept → completes (shown kept.held) wanted ≡ Some diff → now ≡ kept_with kept diff
+edit_alone : (c : Client) (room : Room) (kept now : Holding) (wanted diff : RecordOps) → room ≡ empty_room → c.connection ≡ Off → c.reached ≡ negsuc 0 → Holds [] c kept → completes (shown kept.held) wanted ≡ Some diff → now ≡ kept_with kept diff
     → Becomes (model.after_edit is_admitted completes (alone c) 0 wanted) room now None
 edit_alone c room kept now wanted diff room_is off reached holds may is = (
   alone (with_diff c diff),
@@ -175,7 +175,7 @@ edit_alone c room kept now wanted diff room_is off reached holds may is = (
 )
 
 -- an edit of one that waits for its answer
-edit_waiting : (h : History) (phase : Phase) (flow : Link) (c : Client) (kept now : Holding) (wanted diff : Changes) (old new : code.Link) (room : Room) → c.connection ≡ Asking 0 → Holds h c kept
+edit_waiting : (h : History) (phase : Phase) (flow : Link) (c : Client) (kept now : Holding) (wanted diff : RecordOps) (old new : code.Link) (room : Room) → c.connection ≡ Asking 0 → Holds h c kept
     → room ≡ record { history = h; sessions = phase ∷ [] } → old.up.items ≡ flow.up → AllTell h 0 flow.down old.down.items → Meets h flow (with_diff c diff) phase → AllActed [] h
     → completes (shown kept.held) wanted ≡ Some diff → PushesUp (kept_with kept diff) (Some old) now (Some new)
     → Becomes (model.after_edit is_admitted completes (together h phase flow c) 0 wanted) room now (Some new)
@@ -200,7 +200,7 @@ edit_waiting h phase flow c kept now wanted diff old new room asks holds room_is
     )
 
 -- an edit of one that is connected
-edit_connected : (h : History) (mark : ℕ) (flow : Link) (c : Client) (kept now : Holding) (wanted diff : Changes) (old new : code.Link) (room : Room) → c.connection ≡ Open 0 → Holds h c kept
+edit_connected : (h : History) (mark : ℕ) (flow : Link) (c : Client) (kept now : Holding) (wanted diff : RecordOps) (old new : code.Link) (room : Room) → c.connection ≡ Open 0 → Holds h c kept
     → room ≡ record { history = h; sessions = Live mark ∷ [] } → old.up.items ≡ flow.up → AllTell h 0 flow.down old.down.items → Flows h flow c mark → AllActed [] h
     → completes (shown kept.held) wanted ≡ Some diff → PushesUp (kept_with kept diff) (Some old) now (Some new)
     → Becomes (model.after_edit is_admitted completes (together h (Live mark) flow c) 0 wanted) room now (Some new)
@@ -227,7 +227,7 @@ edit_connected h mark flow c kept now wanted diff old new room opened holds room
     )
 
 -- an edit of one that has a session
-edit_together : (w : model.World) (room : Room) (kept now : Holding) (wanted diff : Changes) (old new : code.Link) → Together w room old kept → completes (shown kept.held) wanted ≡ Some diff → PushesUp (kept_with kept diff) (Some old) now (Some new)
+edit_together : (w : model.World) (room : Room) (kept now : Holding) (wanted diff : RecordOps) (old new : code.Link) → Together w room old kept → completes (shown kept.held) wanted ≡ Some diff → PushesUp (kept_with kept diff) (Some old) now (Some new)
     → Becomes (model.after_edit is_admitted completes w 0 wanted) room now (Some new)
 edit_together w room kept now wanted diff old new t may pushed =
     subst (λ x. Becomes (model.after_edit is_admitted completes x 0 wanted) room now (Some new)) (sym t.world_is) (by_phase t.phase t.room_is t.meets)
@@ -255,7 +255,7 @@ edit_together w room kept now wanted diff old new t may pushed =
     by_phase (Live mark) room_is meets = by_connection mark t.client.connection room_is refl meets
 
 -- an edit of a client, in whatever world the code stands for
-pub edits : (w : model.World) (room : Room) (kept now : Holding) (wanted diff : Changes) (link left : Option code.Link) → StandsFor w room (Some kept) link → completes (shown kept.held) wanted ≡ Some diff → PushesUp (kept_with kept diff) link now left
+pub edits : (w : model.World) (room : Room) (kept now : Holding) (wanted diff : RecordOps) (link left : Option code.Link) → StandsFor w room (Some kept) link → completes (shown kept.held) wanted ≡ Some diff → PushesUp (kept_with kept diff) link now left
     → Becomes (model.after_edit is_admitted completes w 0 wanted) room now left
 edits w room kept now wanted diff None None s may pushed =
     subst (λ x. Becomes (model.after_edit is_admitted completes x 0 wanted) room now None) (sym s.1) (edit_alone s.0 room kept now wanted diff s.2 s.3 s.4 s.5 may pushed)

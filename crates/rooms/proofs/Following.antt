@@ -5,7 +5,7 @@ use Rattle.std.proofs.lemmas.List.Sums.{sum_by-cons}
 use Rattle.std.proofs.lemmas.List.{take-append-le}
 use Rattle.std.specs.List.{count_by}
 use Rattle.rooms_val.specs.Data.{Pairs}
-use Rattle.field_ops.specs.Changes.{Changes}
+use Rattle.field_ops.specs.RecordOps.{RecordOps}
 use Rattle.room_model.specs.Documents.{step}
 use Rattle.room_model.specs.Histories.{History, folded, folded_all, document_of, is_author, is_by}
 use Rattle.room_model.specs.Messages.{events_after, event_by, puts_of}
@@ -60,14 +60,14 @@ leads_on from to next (news_between a b ∷ notices) l = (l.0, leads_on b to nex
 leads_on from to next (answer_at a ∷ notices) l = absurd l
 
 -- diffs that are answered, and one more
-pub settle_last : (session : ℕ) (diffs : List Changes) (entries : History) (diff : Changes) (entry : Entry) → AllSettle session diffs entries → SettlesBy session diff entry.diff entry.author → AllSettle session (diffs ++ diff ∷ []) (entries ++ entry ∷ [])
+pub settle_last : (session : ℕ) (diffs : List RecordOps) (entries : History) (diff : RecordOps) (entry : Entry) → AllSettle session diffs entries → SettlesBy session diff entry.diff entry.author → AllSettle session (diffs ++ diff ∷ []) (entries ++ entry ∷ [])
 settle_last session [] [] diff entry all last = (last, tt)
 settle_last session (d ∷ diffs) (e ∷ entries) diff entry all last = (all.0, settle_last session diffs entries diff entry all.1 last)
 settle_last session [] (e ∷ entries) diff entry all last = absurd all
 settle_last session (d ∷ diffs) [] diff entry all last = absurd all
 
 -- the rest of what is answered, past some entries
-pub settle_rest : (session n : ℕ) (diffs : List Changes) (entries : History) → AllSettle session diffs entries → AllSettle session (drop n diffs) (drop n entries)
+pub settle_rest : (session n : ℕ) (diffs : List RecordOps) (entries : History) → AllSettle session diffs entries → AllSettle session (drop n diffs) (drop n entries)
 settle_rest session zero diffs entries all = all
 settle_rest session (suc n) [] [] all = tt
 settle_rest session (suc n) (d ∷ diffs) (e ∷ entries) all = settle_rest session n diffs entries all.1
@@ -75,33 +75,33 @@ settle_rest session (suc n) [] (e ∷ entries) all = absurd all
 settle_rest session (suc n) (d ∷ diffs) [] all = absurd all
 
 -- and the first of it
-pub settle_front : (session n : ℕ) (diffs : List Changes) (entries : History) → AllSettle session diffs entries → AllSettle session (take n diffs) (take n entries)
+pub settle_front : (session n : ℕ) (diffs : List RecordOps) (entries : History) → AllSettle session diffs entries → AllSettle session (take n diffs) (take n entries)
 settle_front session zero diffs entries all = tt
 settle_front session (suc n) [] [] all = tt
 settle_front session (suc n) (d ∷ diffs) (e ∷ entries) all = (all.0, settle_front session n diffs entries all.1)
 settle_front session (suc n) [] (e ∷ entries) all = absurd all
 settle_front session (suc n) (d ∷ diffs) [] all = absurd all
 
-is_by_session : (session : ℕ) (diff part : Changes) (author : Option Author) → SettlesBy session diff part author → is_author session author ≡ true
+is_by_session : (session : ℕ) (diff part : RecordOps) (author : Option Author) → SettlesBy session diff part author → is_author session author ≡ true
 is_by_session session diff part None s = absurd s
 is_by_session session diff part (Some author) s = grind (arith, nat_tests, s.0)
 
 -- entries that answer diffs are as many as these, all by the session
-pub settle_count : (session : ℕ) (diffs : List Changes) (entries : History) → AllSettle session diffs entries → count_by (is_by session) entries ≡ length diffs
+pub settle_count : (session : ℕ) (diffs : List RecordOps) (entries : History) → AllSettle session diffs entries → count_by (is_by session) entries ≡ length diffs
 settle_count session [] [] all = refl
 settle_count session (d ∷ diffs) (e ∷ entries) all =
     sum_by-cons (λ x. cond (is_by session x) 1 0) e entries ∙ (λ i. cond (is_by_session session d e.diff e.author all.0 i) 1 0 + settle_count session diffs entries all.1 i) ∙ omega arith
 settle_count session [] (e ∷ entries) all = absurd all
 settle_count session (d ∷ diffs) [] all = absurd all
 
-pub settle_length : (session : ℕ) (diffs : List Changes) (entries : History) → AllSettle session diffs entries → length diffs ≡ length entries
+pub settle_length : (session : ℕ) (diffs : List RecordOps) (entries : History) → AllSettle session diffs entries → length diffs ≡ length entries
 settle_length session [] [] all = refl
 settle_length session (d ∷ diffs) (e ∷ entries) all = ap suc (settle_length session diffs entries all.1)
 settle_length session [] (e ∷ entries) all = absurd all
 settle_length session (d ∷ diffs) [] all = absurd all
 
 -- further pushes
-pub push_last : (diffs : List Changes) (ms : List ClientMessage) (diff : Changes) (clock : _) → AllPush diffs ms → AllPush (diffs ++ diff ∷ []) (ms ++ Push clock (Some diff) ∷ [])
+pub push_last : (diffs : List RecordOps) (ms : List ClientMessage) (diff : RecordOps) (clock : _) → AllPush diffs ms → AllPush (diffs ++ diff ∷ []) (ms ++ Push clock (Some diff) ∷ [])
 push_last [] [] diff clock all = (refl, tt)
 push_last (d ∷ diffs) (Push c given ∷ ms) diff clock all = (all.0, push_last diffs ms diff clock all.1)
 push_last (d ∷ diffs) (Connect r c ∷ ms) diff clock all = absurd all
@@ -122,13 +122,13 @@ acted_last document [] entry all last = (last, tt)
 acted_last document (e ∷ h) entry all last = (all.0, acted_last (folded document e.diff) h entry all.1 last)
 
 -- the answer to a diff makes of a base what its entry does
-settles_base : (base : Pairs) (diff part : Changes) (more : List Changes) (action : Action) → step is_admitted base part ≡ folded base part → Settles diff part action → settled base (diff ∷ more) action ≡ folded base part
+settles_base : (base : Pairs) (diff part : RecordOps) (more : List RecordOps) (action : Action) → step is_admitted base part ≡ folded base part → Settles diff part action → settled base (diff ∷ more) action ≡ folded base part
 settles_base base diff part more Commit acted s = ap (step is_admitted base) (sym s) ∙ acted
 settles_base base diff part more Discard acted s = ap (folded base) (sym s)
 settles_base base diff part more (Rebase named) acted s = ap (step is_admitted base) (sym s) ∙ acted
 
 -- the first of them, where the rest is known
-by_author : (session clock pushed : ℕ) (base : Pairs) (d : Changes) (diffs more : List Changes) (e : Entry) (entries : History) → step is_admitted base e.diff ≡ folded base e.diff
+by_author : (session clock pushed : ℕ) (base : Pairs) (d : RecordOps) (diffs more : List RecordOps) (e : Entry) (entries : History) → step is_admitted base e.diff ≡ folded base e.diff
     → after_events (record { base = folded base e.diff; reached = pos (clock + 1); owed = diffs ++ more; pushed = pushed - 1 }) (events_after session (clock + 1) entries)
     ≡ record { base = folded_all (folded base e.diff) entries; reached = pos ((clock + 1) + length entries); owed = more; pushed = (pushed - 1) - length entries }
     → (author : Option Author) → SettlesBy session d e.diff author
@@ -145,7 +145,7 @@ by_author session clock pushed base d diffs more e entries acted rest (Some auth
     ∙ rest ∙ (λ i. record { base = folded_all (folded base e.diff) entries; reached = pos (clock_is i); owed = more; pushed = pushed_is i })
 
 -- events of entries that answer a client's first diffs bring its base over these entries, and it owes the rest
-pub after_answers : (session clock pushed : ℕ) (base : Pairs) (diffs more : List Changes) (entries : History) → AllActed base entries → AllSettle session diffs entries
+pub after_answers : (session clock pushed : ℕ) (base : Pairs) (diffs more : List RecordOps) (entries : History) → AllActed base entries → AllSettle session diffs entries
     → after_events (record { base = base; reached = pos clock; owed = diffs ++ more; pushed = pushed }) (events_after session clock entries)
     ≡ record { base = folded_all base entries; reached = pos (clock + length entries); owed = more; pushed = pushed - length entries }
 after_answers session clock pushed base [] more [] acted all = λ i. record { base = base; reached = pos (none clock i); owed = more; pushed = none' pushed i }

@@ -4,7 +4,7 @@ use Rattle.std.proofs.lemmas.Bool.Decides.{nat_tests}
 use Rattle.std.proofs.lemmas.List.{drop-append-le}
 use Rattle.std.proofs.lemmas.List.Folds.{list_all-append}
 use Rattle.std.specs.List.{list_all}
-use Rattle.field_ops.specs.Changes.{Changes}
+use Rattle.field_ops.specs.RecordOps.{RecordOps}
 use Rattle.room_model.specs.Accepting.{accepted, action_of, are_fit}
 use Rattle.room_model.specs.Histories.{History, document_of, up_to}
 use Rattle.room_model.specs.Rooms.{Room, after_message, entry_of}
@@ -28,15 +28,15 @@ use Rattle.sync_msgs.specs.declared.client_message.ClientMessage.TheVariants.{Co
 use Rattle.sync_msgs.specs.declared.data_event.Action.TheVariants.{Commit, Discard, Rebase}
 use Rattle.rooms_val.specs.Data.{Pairs}
 
-empty : (diff : Changes) → length diff ≡ 0 → diff ≡ []
+empty : (diff : RecordOps) → length diff ≡ 0 → diff ≡ []
 empty [] none = refl
 empty (c ∷ diff) none = absurd (omega arith)
 
 -- the action of an accepted part says what was accepted
-settles_action : (document : Pairs) (diff : Changes) → Settles diff (accepted is_admitted document diff) (action_of diff (accepted is_admitted document diff))
+settles_action : (document : Pairs) (diff : RecordOps) → Settles diff (accepted is_admitted document diff) (action_of diff (accepted is_admitted document diff))
 settles_action document diff = by_all (length part == length diff) refl
   where
-    part : Changes
+    part : RecordOps
     part = accepted is_admitted document diff
 
     by_none : (b : Bool) → (length part == 0) ≡ b → Settles diff part (cond b Discard (Rebase part))
@@ -49,19 +49,19 @@ settles_action document diff = by_all (length part == length diff) refl
 
 -- the first diff that waits is pushed, and its entry answers it
 record Pushed (h : History) (flow : Link) (c : Client) (mark : ℕ) (m : ClientMessage) (rest : List ClientMessage) : Type 0 where
-  diff : Changes
+  diff : RecordOps
   client_clock : ℤ
   is : m ≡ Push client_clock (Some diff)
   fit : are_fit is_document is_admitted diff ≡ true
   flows : Flows (h ++ entry_of is_admitted 0 client_clock h diff ∷ []) (record flow { up = rest }) c mark
 
-fit_first : (answered : List Changes) (d : Changes) (ws left owed : List Changes) → owed ≡ answered ++ ((d ∷ ws) ++ left) → list_all (are_fit is_document is_admitted) owed ≡ true → are_fit is_document is_admitted d ≡ true
+fit_first : (answered : List RecordOps) (d : RecordOps) (ws left owed : List RecordOps) → owed ≡ answered ++ ((d ∷ ws) ++ left) → list_all (are_fit is_document is_admitted) owed ≡ true → are_fit is_document is_admitted d ≡ true
 fit_first answered d ws left owed is all =
     let parts = both_true _ _ (sym (list_all-append (are_fit is_document is_admitted) answered (d ∷ (ws ++ left))) ∙ ap (list_all (are_fit is_document is_admitted)) (sym is) ∙ all) in
     (both_true _ _ parts.1).0
 
 pushed_by : (h : History) (flow : Link) (c : Client) (mark : ℕ) (m : ClientMessage) (rest : List ClientMessage) (f : Flows h flow c mark) → list_all (are_fit is_document is_admitted) c.owed ≡ true
-    → (waiting : List Changes) → c.owed ≡ f.answered ++ (waiting ++ f.left) → AllPush waiting (m ∷ rest) → Pushed h flow c mark m rest
+    → (waiting : List RecordOps) → c.owed ≡ f.answered ++ (waiting ++ f.left) → AllPush waiting (m ∷ rest) → Pushed h flow c mark m rest
 pushed_by h flow c mark m rest f all [] owed pushes = absurd pushes
 pushed_by h flow c mark (Connect request reached) rest f all (d ∷ ws) owed pushes = absurd pushes
 pushed_by h flow c mark (Push k given) rest f all (d ∷ ws) owed pushes =

@@ -1,7 +1,7 @@
 -- What a client has to push.
 use Rattle.std.proofs.Common.{◌≡◌, ℕ, ◌+◌, ◌<◌, ◌≤◌, nat_lt, true, false, List, [], ◌∷◌, drop, length, Some, None, slice_get, pos, refl, sym, ap, ◌∙◌, arith}
 use Rattle.std.proofs.lemmas.Bool.Decides.{nat_tests}
-use Rattle.field_ops.specs.Changes.{Changes}
+use Rattle.field_ops.specs.RecordOps.{RecordOps}
 use Rattle.room_model.specs.Worlds.{pushes_of, most_pushes}
 use Rattle.room_model.specs.declared.phase.Connection.{Connection}
 use Rattle.room_model.specs.declared.phase.Connection.TheVariants.{Off, Asking, Open}
@@ -21,13 +21,13 @@ opens (Asking n) h open_ = absurd (cc)
 opens (Open n) h open_ = refl
 
 -- no push has a number above the greatest
-pub pushes_of-full : (count : ℕ) (diffs : List Changes) → most_pushes ≤ count → pushes_of count diffs ≡ []
+pub pushes_of-full : (count : ℕ) (diffs : List RecordOps) → most_pushes ≤ count → pushes_of count diffs ≡ []
 pushes_of-full count [] full = refl
 pushes_of-full count (d ∷ ds) full =
     let past : nat_lt count most_pushes ≡ false = grind (arith, nat_tests, full) in
     rw past
 
-pub pushes_of-first : (count : ℕ) (diff : Changes) (diffs : List Changes) → count < most_pushes → pushes_of count (diff ∷ diffs) ≡ Push (pos (count + 1)) (Some diff) ∷ pushes_of (count + 1) diffs
+pub pushes_of-first : (count : ℕ) (diff : RecordOps) (diffs : List RecordOps) → count < most_pushes → pushes_of count (diff ∷ diffs) ≡ Push (pos (count + 1)) (Some diff) ∷ pushes_of (count + 1) diffs
 pushes_of-first count diff diffs room =
     let below : nat_lt count most_pushes ≡ true = grind (arith, nat_tests, room) in
     rw below
@@ -43,7 +43,7 @@ pub gives_past : (c : Holding) → is_open c.connection ≡ true → None ≡ sl
 gives_past c is past = ap (pushes_of c.pushes) (opens c.connection c.held is ∙ drop-past c.held.owed c.held.pushed (sym past))
 
 -- the first that is left is pushed
-pub gives_there : (c : Holding) (diff : Changes) → is_open c.connection ≡ true → c.pushes < most_pushes → Some diff ≡ slice_get c.held.owed c.held.pushed
+pub gives_there : (c : Holding) (diff : RecordOps) → is_open c.connection ≡ true → c.pushes < most_pushes → Some diff ≡ slice_get c.held.owed c.held.pushed
     → pushes_of c.pushes (unpushed c) ≡ Push (pos (c.pushes + 1)) (Some diff) ∷ pushes_of (c.pushes + 1) (unpushed (after_pushes c 1))
 gives_there c diff is room there =
     ap (pushes_of c.pushes) (opens c.connection c.held is ∙ drop-there c.held.owed c.held.pushed diff (sym there))

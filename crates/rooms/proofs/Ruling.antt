@@ -2,7 +2,7 @@
 use Rattle.std.proofs.Common.{◌≡◌, [], Some, None, Result, Ok, Err, sym, ap, subst, ◌∙◌}
 use Rattle.std.specs.Result.{result_ok}
 use Rattle.rooms_val.specs.Data.{Pairs}
-use Rattle.field_ops.specs.Changes.{Changes}
+use Rattle.field_ops.specs.RecordOps.{RecordOps}
 use Rattle.room_model.specs.Documents.{step}
 use Rattle.schema_core.specs.Admits as schema
 use Rattle.schema_core.specs.Tree.{Types, SchemaTree}
@@ -16,21 +16,21 @@ use Rattle.rooms.specs.Rules.{HasTypes, whiteboard, is_admitted}
 abbrev of_types : Types → SchemaTree
 of_types types = record { types = types; sequences = [] }
 
-pub step_same : (s : SchemaTree) (document : Pairs) (diff : Changes) → HasTypes s → step (λ id d. schema.is_admitted s id d) document diff ≡ step is_admitted document diff
+pub step_same : (s : SchemaTree) (document : Pairs) (diff : RecordOps) → HasTypes s → step (λ id d. schema.is_admitted s id d) document diff ≡ step is_admitted document diff
 unfolding is_admitted whiteboard
 step_same s document diff is = ap (λ types. step (λ id d. schema.is_admitted (of_types types) id d) document diff) is
 
-pub completed_same : (s : SchemaTree) (document : Pairs) (wanted : Changes) → HasTypes s → completed s document wanted ≡ completed whiteboard document wanted
+pub completed_same : (s : SchemaTree) (document : Pairs) (wanted : RecordOps) → HasTypes s → completed s document wanted ≡ completed whiteboard document wanted
 unfolding whiteboard
 completed_same s document wanted is = ap (λ types. completed (of_types types) document wanted) is
 
 -- what an answer gives is completed to
-pub gives_ok : (r : Result Changes EditFault) (diff : Changes) (by_schema by_board : Result Changes EditFault) → by_schema ≡ by_board → r ≡ Ok diff → Gives OutOfMemory (λ d. d) r by_schema → Some diff ≡ result_ok by_board
+pub gives_ok : (r : Result RecordOps EditFault) (diff : RecordOps) (by_schema by_board : Result RecordOps EditFault) → by_schema ≡ by_board → r ≡ Ok diff → Gives OutOfMemory (λ d. d) r by_schema → Some diff ≡ result_ok by_board
 gives_ok r diff by_schema by_board same is given =
     let got : by_schema ≡ Ok diff = subst (λ x. Gives OutOfMemory (λ d. d) x by_schema) is given in
     ap result_ok (sym got) ∙ ap result_ok same
 
-pub gives_err : (r : Result Changes EditFault) (fault : EditFault) (by_schema by_board : Result Changes EditFault) → by_schema ≡ by_board → r ≡ Err fault → ¬ (fault ≡ OutOfMemory) → Gives OutOfMemory (λ d. d) r by_schema → None ≡ result_ok by_board
+pub gives_err : (r : Result RecordOps EditFault) (fault : EditFault) (by_schema by_board : Result RecordOps EditFault) → by_schema ≡ by_board → r ≡ Err fault → ¬ (fault ≡ OutOfMemory) → Gives OutOfMemory (λ d. d) r by_schema → None ≡ result_ok by_board
 gives_err r fault by_schema by_board same is other given =
     let got : by_schema ≡ Err fault = subst (λ x. Gives OutOfMemory (λ d. d) x by_schema) is given other in
     ap result_ok (sym got) ∙ ap result_ok same

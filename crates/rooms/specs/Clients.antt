@@ -4,8 +4,8 @@ use Rattle.std.specs.Coded.{Coded, code_by, coded×, coded_list, coded_ℕ, code
 use Rattle.std.specs.Prelude.{refl}
 use Rattle.rooms_val.specs.Code.{coded_pairs}
 use Rattle.rooms_val.specs.Data.{Pairs}
-use Rattle.field_ops.specs.Changes.{Changes}
-use Rattle.field_ops.specs.WireChanges.{coded_changes}
+use Rattle.field_ops.specs.RecordOps.{RecordOps}
+use Rattle.field_ops.specs.WireRecordOps.{coded_changes}
 use Rattle.room_model.specs.Codes.{coded_connection}
 use Rattle.room_model.specs.Documents as documents
 use Rattle.room_model.specs.Worlds.{pushes_of}
@@ -25,7 +25,7 @@ use Rattle.sync_msgs.specs.declared.server_message.ServerMessage.TheVariants as 
 pub record Held : Type 0 where
   pub base : Pairs
   pub reached : ℤ
-  pub owed : List Changes
+  pub owed : List RecordOps
   pub pushed : ℕ
 
 -- a client by itself: its connection, what it has, and how many pushes it made
@@ -36,7 +36,7 @@ pub record Holding : Type 0 where
 
 abbrev pub coded_held : Coded Held
 coded_held =
-    code_by (Pairs × (ℤ × (List Changes × ℕ))) (coded× coded_pairs (coded× coded_ℤ (coded× (coded_list coded_changes) coded_ℕ)))
+    code_by (Pairs × (ℤ × (List RecordOps × ℕ))) (coded× coded_pairs (coded× coded_ℤ (coded× (coded_list coded_changes) coded_ℕ)))
     (λ h. (h.base, (h.reached, (h.owed, h.pushed)))) (λ p. record { base = p.0; reached = p.1.0; owed = p.1.1.0; pushed = p.1.1.1 }) (λ _. refl)
 
 abbrev pub coded_holding : Coded Holding
@@ -57,7 +57,7 @@ abbrev pub shown : Held → Pairs
 shown h = documents.replayed is_admitted h.base h.owed
 
 -- with a further edit
-abbrev pub owing : Held → Changes → Held
+abbrev pub owing : Held → RecordOps → Held
 owing h diff = record h { owed = h.owed ++ diff ∷ [] }
 
 abbrev pub is_open : Connection → Bool
@@ -66,12 +66,12 @@ is_open (Asking session) = false
 is_open (Open session) = true
 
 -- the edits that it has still to push, where it is connected
-abbrev pub unpushed_on : Connection → Held → List Changes
+abbrev pub unpushed_on : Connection → Held → List RecordOps
 unpushed_on Off h = []
 unpushed_on (Asking session) h = []
 unpushed_on (Open session) h = drop h.pushed h.owed
 
-abbrev pub unpushed : Holding → List Changes
+abbrev pub unpushed : Holding → List RecordOps
 unpushed c = unpushed_on c.connection c.held
 
 -- the client with so many pushes made
@@ -84,7 +84,7 @@ GivesPush old None new = (pushes_of old.pushes (unpushed old) ≡ []) × (new �
 GivesPush old (Some push) new = (pushes_of old.pushes (unpushed old) ≡ push ∷ pushes_of new.pushes (unpushed new)) × (new ≡ after_pushes old 1)
 
 -- a push answered as a whole has the base changed by it, one answered by a part by that part, and one discarded not at all
-abbrev pub settled : Pairs → List Changes → Action → Pairs
+abbrev pub settled : Pairs → List RecordOps → Action → Pairs
 settled base owed Discard = base
 settled base owed (Rebase diff) = documents.step is_admitted base diff
 settled base [] Commit = base
@@ -101,7 +101,7 @@ after_events h [] = h
 after_events h (event ∷ events) = after_events (after_event h event) events
 
 -- the answer makes the base anew at a clock, and nothing counts as pushed
-abbrev pub renewed : Held → Changes → ℤ → Held
+abbrev pub renewed : Held → RecordOps → ℤ → Held
 renewed h diff clock = record h { base = documents.step is_admitted [] diff; reached = clock; pushed = 0 }
 
 -- the connection that an answer opens

@@ -2,7 +2,7 @@
 use Rattle.std.specs.Prelude.{◌≡◌, ℕ, List, [], Bool, Option}
 use Rattle.std.specs.Result.{result_ok}
 use Rattle.rooms_val.specs.Data.{Data, Pairs}
-use Rattle.field_ops.specs.Changes.{Changes}
+use Rattle.field_ops.specs.RecordOps.{RecordOps}
 use Rattle.schema_core.specs.Admits as schema
 use Rattle.schema_core.specs.Builds.{by_name}
 use Rattle.schema_core.specs.Tree.{SchemaTree}
@@ -22,7 +22,7 @@ unfoldable pub is_document : List ℕ → Bool
 is_document id = is_of_document (schema.scope_of whiteboard id)
 
 -- the diff to which an edit of a document is completed, if it isn't refused
-unfoldable pub completes : Pairs → Changes → Option Changes
+unfoldable pub completes : Pairs → RecordOps → Option RecordOps
 completes document wanted = result_ok (completed whiteboard document wanted)
 
 -- a schema has these types

@@ -3,7 +3,7 @@
 use Rattle.std.specs.Prelude.{◌≡◌, ℕ, ◌≤◌, ◌<◌, pos, negsuc, List, [], ◌∷◌, ◌++◌, length, take, drop, true, decimal, Option, Some, None}
 use Rattle.std.specs.List.{list_all}
 use Rattle.rooms_val.specs.Data.{Pairs}
-use Rattle.field_ops.specs.Changes.{Changes}
+use Rattle.field_ops.specs.RecordOps.{RecordOps}
 use Rattle.room_model.specs.Accepting.{are_fit}
 use Rattle.room_model.specs.Documents.{step}
 use Rattle.room_model.specs.Histories.{History, document_of, up_to, folded}
@@ -59,24 +59,24 @@ pub record Holds (history : History) (client : Client) (kept : Holding) : Type 0
   pub pushed : (session : ℕ) → client.connection ≡ Open session → client.pushes < most_pushes → kept.held.pushed ≡ length client.owed
 
 -- what the room made of a diff: it accepted all, nothing, or the part that the action names
-abbrev pub Settles : Changes → Changes → Action → Type 0
+abbrev pub Settles : RecordOps → RecordOps → Action → Type 0
 Settles diff part Commit = part ≡ diff
 Settles diff part Discard = part ≡ []
 Settles diff part (Rebase named) = part ≡ named
 
-abbrev pub SettlesBy : ℕ → Changes → Changes → Option Author → Type 0
+abbrev pub SettlesBy : ℕ → RecordOps → RecordOps → Option Author → Type 0
 SettlesBy session diff part None = ⊥
 SettlesBy session diff part (Some author) = (author.session ≡ session) × Settles diff part author.action
 
 -- entries answer a session's diffs, in order
-abbrev pub AllSettle : ℕ → List Changes → List Entry → Type 0
+abbrev pub AllSettle : ℕ → List RecordOps → List Entry → Type 0
 AllSettle session [] [] = Unit {0}
 AllSettle session (diff ∷ diffs) (entry ∷ entries) = SettlesBy session diff entry.diff entry.author × AllSettle session diffs entries
 AllSettle session [] (entry ∷ entries) = ⊥
 AllSettle session (diff ∷ diffs) [] = ⊥
 
 -- messages push diffs, in order
-abbrev pub AllPush : List Changes → List ClientMessage → Type 0
+abbrev pub AllPush : List RecordOps → List ClientMessage → Type 0
 AllPush [] [] = Unit {0}
 AllPush (diff ∷ diffs) (Push client_clock given ∷ messages) = (given ≡ Some diff) × AllPush diffs messages
 AllPush (diff ∷ diffs) (Connect request reached ∷ messages) = ⊥
@@ -97,9 +97,9 @@ pub record Flows (history : History) (link : Link) (client : Client) (mark : ℕ
   pub below : clock ≤ length history
   pub leads : Leads clock link.down mark
   pub within : mark ≤ length history
-  pub answered : List Changes
-  pub waiting : List Changes
-  pub left : List Changes
+  pub answered : List RecordOps
+  pub waiting : List RecordOps
+  pub left : List RecordOps
   pub owed : client.owed ≡ answered ++ (waiting ++ left)
   pub settled : AllSettle 0 answered (drop clock history)
   pub pushed : AllPush waiting link.up

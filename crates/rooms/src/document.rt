@@ -2,7 +2,7 @@
 ghost use Rattle.std.specs.Prelude.{◌≡◌, IfOk, OnOk, false, if◌then◌else◌};
 ghost use Rattle.field_ops.specs.Entries.{with_key};
 ghost use Rattle.std.specs.Option.{option_map_or};
-ghost use Rattle.field_ops.specs.ViewChanges.{change_of};
+ghost use Rattle.field_ops.specs.ViewRecordOps.{change_of};
 ghost use Rattle.room_model.specs.Accepting.{accepted, are_fit, is_fit};
 ghost use Rattle.room_model.specs.Documents.{acts, stepped, step};
 ghost use Rattle.rooms_val.specs.View.{data_of};

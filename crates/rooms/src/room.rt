@@ -1,6 +1,6 @@
 //! The room: it accepts what clients push, and tells each what happened.
 ghost use Rattle.std.specs.Prelude.{◌≡◌, ◌<◌, ◌≤◌, ◌+◌, ◌^◌, [], pos, length, take, drop, is_some, if◌then◌else◌, IfOk, OnOk, slice_get};
-ghost use Rattle.field_ops.specs.Changes.{Changes};
+ghost use Rattle.field_ops.specs.RecordOps.{RecordOps};
 ghost use Rattle.room_model.specs.Accepting.{are_fit, action_of, pushed_diff};
 ghost use Rattle.room_model.specs.Histories.{document_of};
 ghost use Rattle.room_model.specs.Messages.{answer, news, events_after, event_by, puts_of};

@@ -3,7 +3,7 @@ use Rattle.std.specs.Prelude.{ℕ, nat_lt, length, List, [], ◌∷◌, Bool, tr
 use Rattle.std.specs.Option.{option_map_or}
 use Rattle.rooms_val.specs.Data.{Pairs}
 use Rattle.rooms_val.specs.Maps.{get}
-use Rattle.field_ops.specs.Changes.{Change, put, patch, remove, Changes}
+use Rattle.field_ops.specs.RecordOps.{RecordOpTree, put, patch, remove, RecordOps}
 use Rattle.field_ops.specs.Patched.{raw}
 use Rattle.schema_core.specs.Tree.{SchemaTree}
 use Rattle.schema_core.specs.Admits.{scope_of, first_fault}
@@ -20,31 +20,31 @@ is_of_document (Some Session) = false
 is_of_document (Some Presence) = false
 
 -- the operation names an id that isn't of document scope
-abbrev pub wrong_scope : SchemaTree → List ℕ → Change → Option EditFault
+abbrev pub wrong_scope : SchemaTree → List ℕ → RecordOpTree → Option EditFault
 wrong_scope s id c = if is_of_document (scope_of s id) then None else Some (WrongScope id)
 
 -- the operation patches or removes a record that isn't there
-abbrev pub no_record : Pairs → List ℕ → Change → Option EditFault
+abbrev pub no_record : Pairs → List ℕ → RecordOpTree → Option EditFault
 no_record m id (put d) = None
 no_record m id (patch p) = if is_some (get m id) then None else Some (NoRecord id)
 no_record m id remove = if is_some (get m id) then None else Some (NoRecord id)
 
 -- the operation leaves a record that isn't admitted, if nothing is passed over
-abbrev pub invalid : SchemaTree → Pairs → List ℕ → Change → Option EditFault
+abbrev pub invalid : SchemaTree → Pairs → List ℕ → RecordOpTree → Option EditFault
 invalid s m id c = option_and_then (λ d. option_map (λ fault. Invalid id fault) (first_fault s id d)) (raw c (get m id))
 
 -- what a rule says of the first operation that it refuses, which is the one of the least id
-abbrev pub first_refusal : (List ℕ → Change → Option EditFault) → Changes → Option EditFault
+abbrev pub first_refusal : (List ℕ → RecordOpTree → Option EditFault) → RecordOps → Option EditFault
 first_refusal rule [] = None
 first_refusal rule (c ∷ diff) = option_map_or (λ fault. Some fault) (rule c.0 c.1) (first_refusal rule diff)
 
 -- a refusal, or what comes after
-abbrev pub unless : Option EditFault → Result Changes EditFault → Result Changes EditFault
+abbrev pub unless : Option EditFault → Result RecordOps EditFault → Result RecordOps EditFault
 unless None next = next
 unless (Some fault) next = Err fault
 
 -- the wanted diff as it is, or the first rule that refuses it
-abbrev pub completed : SchemaTree → Pairs → Changes → Result Changes EditFault
+abbrev pub completed : SchemaTree → Pairs → RecordOps → Result RecordOps EditFault
 completed s m wanted =
     if nat_lt 8192 (length wanted) then Err TooMany
     else unless (first_refusal (wrong_scope s) wanted) (unless (first_refusal (no_record m) wanted) (unless (first_refusal (invalid s m) wanted) (Ok wanted)))

@@ -1,5 +1,5 @@
 use Rattle.std.proofs.Common.{◌≡◌, true, ◌||◌, Bool, List, ℕ, drop, ◌+◌, sym, ap, ◌∙◌}
-use Rattle.field_ops.specs.Edits.{edits_of, edits_have_append}
+use Rattle.field_ops.specs.ValueOps.{edits_of, edits_have_append}
 use Rattle.field_ops.specs.View.{patch_view}
 use Rattle.field_ops.specs.declared.value_op.ValueOp.{ValueOp}
 use Rattle.field_ops.proofs.Stages.{one_off}

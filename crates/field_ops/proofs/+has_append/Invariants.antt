@@ -1,5 +1,5 @@
 use Rattle.std.proofs.Common.{◌≡◌, drop}
-use Rattle.field_ops.specs.Edits.{edits_of, edits_have_append}
+use Rattle.field_ops.specs.ValueOps.{edits_of, edits_have_append}
 use Rattle.field_ops.specs.View.{patch_view}
 use Rattle.field_ops.proofs.+has_append.Given as goal
 

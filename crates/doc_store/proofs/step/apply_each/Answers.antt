@@ -1,8 +1,8 @@
 use Rattle.std.proofs.Common.{◌≡◌, ◌+◌, [], ◌∷◌, drop, refl, sym, ap, subst, ◌∙◌, arith}
 use Rattle.rooms_val.specs.Maps.{get}
-use Rattle.field_ops.specs.Changes.{IsSoundDiff}
+use Rattle.field_ops.specs.RecordOps.{IsSoundDiff}
 use Rattle.field_ops.specs.Entries.{AreRising}
-use Rattle.field_ops.specs.ViewChanges.{change_of, changes_view, maybe_change}
+use Rattle.field_ops.specs.ViewRecordOps.{change_of, changes_view, maybe_change}
 use Rattle.field_ops.proofs.Soundness.{rising_records}
 use Rattle.field_ops.proofs.Stages.{Going, one_off, going_first, going_next, going_done}
 use Rattle.schema_core.specs.Admits.{is_admitted}

@@ -1,5 +1,5 @@
 use Rattle.std.proofs.Common.{◌≡◌, ◌+◌, ◌≤◌, [], drop}
-use Rattle.field_ops.specs.ViewChanges.{changes_view}
+use Rattle.field_ops.specs.ViewRecordOps.{changes_view}
 use Rattle.field_ops.proofs.Stages.{Going}
 use Rattle.schema_core.specs.Admits.{is_admitted}
 use Rattle.schema_core.specs.SchemaOf.{schema_tree}

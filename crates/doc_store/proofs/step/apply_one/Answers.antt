@@ -3,7 +3,7 @@ use Rattle.std.specs.Option.{option_copied}
 use Rattle.rooms_val.specs.Maps.{get}
 use Rattle.field_ops.specs.Entries.{set_at}
 use Rattle.field_ops.specs.View.{maybe_data}
-use Rattle.field_ops.specs.ViewChanges.{change_of}
+use Rattle.field_ops.specs.ViewRecordOps.{change_of}
 use Rattle.schema_core.specs.Admits.{is_admitted}
 use Rattle.schema_core.specs.SchemaOf.{schema_tree}
 use Rattle.doc_store.proofs.Trees.{data_of-copied}

@@ -4,7 +4,7 @@ use Rattle.rooms_val.specs.View.{data_of, pairs_view}
 use Rattle.rooms_val.specs.declared.val.Val.{Val}
 use Rattle.rooms_val.proofs.Views.{pairs_of-members_of}
 use Rattle.field_ops.specs.Entries.{value_at}
-use Rattle.field_ops.specs.Edits.{Patch, edits_of}
+use Rattle.field_ops.specs.ValueOps.{Patch, edits_of}
 use Rattle.field_ops.specs.Patched.{patched, value_after}
 use Rattle.field_ops.specs.View.{edit_of, patch_view, maybe_data}
 use Rattle.field_ops.specs.declared.value_op.ValueOp.{ValueOp}

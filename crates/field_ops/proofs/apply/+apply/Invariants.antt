@@ -2,7 +2,7 @@ use Rattle.std.proofs.Common.{ℕ, ◌+◌, ◌*◌, ◌≤◌, List, Option, le
 use Rattle.std.specs.Option.{option_copied}
 use Rattle.rooms_val.specs.Data.{Data}
 use Rattle.rooms_val.specs.declared.val.Val.{Val}
-use Rattle.field_ops.specs.Edits.{edits_of, edits_depth}
+use Rattle.field_ops.specs.ValueOps.{edits_of, edits_depth}
 use Rattle.field_ops.specs.Patched.{patched, value_after}
 use Rattle.field_ops.specs.View.{maybe_data, maybe_edit}
 use Rattle.field_ops.specs.declared.value_op.ValueOp.{ValueOp}

@@ -1,4 +1,4 @@
-use Rattle.field_ops.proofs.Turns.{does_both}
+use Rattle.field_ops.proofs.ComposeLemmas.{does_both}
 use Rattle.field_ops.proofs.laws.in_turn_does_both.Goals as goal
 
 pub returns : goal.returns

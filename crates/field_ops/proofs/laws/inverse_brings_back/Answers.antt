@@ -1,4 +1,4 @@
-use Rattle.field_ops.proofs.Turns.{brings_back}
+use Rattle.field_ops.proofs.ComposeLemmas.{brings_back}
 use Rattle.field_ops.proofs.laws.inverse_brings_back.Goals as goal
 
 pub returns : goal.returns

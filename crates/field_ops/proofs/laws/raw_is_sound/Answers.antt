@@ -1,4 +1,4 @@
-use Rattle.field_ops.proofs.Turns.{sound_raw}
+use Rattle.field_ops.proofs.ComposeLemmas.{sound_raw}
 use Rattle.field_ops.proofs.laws.raw_is_sound.Goals as goal
 
 pub returns : goal.returns

@@ -1,5 +1,5 @@
 use Rattle.std.proofs.Common.{drop}
-use Rattle.field_ops.specs.ViewChanges.{changes_view}
+use Rattle.field_ops.specs.ViewRecordOps.{changes_view}
 use Rattle.rooms.proofs.Accepting.{Accepts}
 use Rattle.rooms.proofs.document.accept.Given as goal
 

@@ -1,7 +1,7 @@
 use Rattle.std.proofs.Common.{◌+◌, ◌++◌, drop, sym, ap, subst, ◌∙◌}
 use Rattle.rooms_val.specs.Data.{map, members_of, IsSound}
 use Rattle.rooms_val.specs.View.{data_of, pairs_view}
-use Rattle.field_ops.specs.Changes.{put}
+use Rattle.field_ops.specs.RecordOps.{put}
 use Rattle.field_ops.specs.Entries.{AreRising, with_key}
 use Rattle.field_ops.proofs.Soundness.{rising_fields}
 use Rattle.field_ops.proofs.Stages.{one_off}

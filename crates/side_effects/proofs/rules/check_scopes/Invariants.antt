@@ -1,5 +1,5 @@
 use Rattle.std.proofs.Common.{◌≡◌, drop}
-use Rattle.field_ops.specs.ViewChanges.{changes_view}
+use Rattle.field_ops.specs.ViewRecordOps.{changes_view}
 use Rattle.schema_core.specs.SchemaOf.{schema_tree}
 use Rattle.side_effects.specs.Completed.{wrong_scope, first_refusal}
 use Rattle.side_effects.proofs.rules.check_scopes.Given as goal

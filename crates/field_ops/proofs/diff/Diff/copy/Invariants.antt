@@ -1,5 +1,5 @@
 use Rattle.std.proofs.Common.{◌≡◌, take}
-use Rattle.field_ops.specs.ViewChanges.{changes_view}
+use Rattle.field_ops.specs.ViewRecordOps.{changes_view}
 use Rattle.field_ops.proofs.diff.Diff.copy.Given as goal
 
 -- what was copied so far stands for what was read so far

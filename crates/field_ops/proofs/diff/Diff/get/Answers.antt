@@ -1,6 +1,6 @@
 use Rattle.std.proofs.Common.{option_map, sym, ap, ◌∙◌}
 use Rattle.field_ops.specs.Entries.{value_at}
-use Rattle.field_ops.specs.ViewChanges.{change_of}
+use Rattle.field_ops.specs.ViewRecordOps.{change_of}
 use Rattle.field_ops.proofs.ForRoomsVal.{at-seen, option_map-after}
 use Rattle.field_ops.proofs.Soundness.{rising_records}
 use Rattle.field_ops.proofs.diff.Diff.get.Goals as goal

@@ -1,7 +1,7 @@
 use Rattle.std.proofs.Common.{option_map, sym, ap, subst, ◌∙◌}
 use Rattle.field_ops.specs.Entries.{value_at, with_key}
-use Rattle.field_ops.specs.Changes.{IsSoundDiff}
-use Rattle.field_ops.specs.ViewChanges.{change_of, changes_view}
+use Rattle.field_ops.specs.RecordOps.{IsSoundDiff}
+use Rattle.field_ops.specs.ViewRecordOps.{change_of, changes_view}
 use Rattle.field_ops.proofs.ForRoomsVal.{at-seen, seen-with_key}
 use Rattle.field_ops.proofs.Soundness.{rising_records, sound_put_change}
 use Rattle.field_ops.proofs.diff.Diff.put.Goals as goal

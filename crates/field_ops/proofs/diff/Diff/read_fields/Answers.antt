@@ -2,8 +2,8 @@ use Rattle.std.proofs.Common.{[], ◌+◌, Some, drop, refl, sym, ap, subst, ◌
 use Rattle.rooms_val.specs.Data.{map, members_of, IsSound}
 use Rattle.rooms_val.specs.View.{data_of, pairs_view}
 use Rattle.field_ops.specs.Entries.{with_key}
-use Rattle.field_ops.specs.ViewChanges.{change_of}
-use Rattle.field_ops.specs.WireChanges.{change_data, diff_pairs}
+use Rattle.field_ops.specs.ViewRecordOps.{change_of}
+use Rattle.field_ops.specs.WireRecordOps.{change_data, diff_pairs}
 use Rattle.field_ops.proofs.ForRoomsVal.{seen-with_key}
 use Rattle.field_ops.proofs.Sent.{read_at, reads, no_record}
 use Rattle.field_ops.proofs.Soundness.{rising_fields, rising_fields_slice}

@@ -1,6 +1,6 @@
 use Rattle.std.proofs.Common.{[], drop}
 use Rattle.rooms_val.specs.View.{pairs_view}
-use Rattle.field_ops.specs.WireChanges.{diff_pairs}
+use Rattle.field_ops.specs.WireRecordOps.{diff_pairs}
 use Rattle.field_ops.proofs.Stages.{Going}
 use Rattle.field_ops.proofs.Sent.{read_at}
 use Rattle.field_ops.proofs.diff.Diff.read_fields.Given as goal

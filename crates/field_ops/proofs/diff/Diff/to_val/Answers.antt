@@ -1,8 +1,8 @@
 use Rattle.std.proofs.Common.{[], ◌+◌, Some, drop, refl, sym, ap, subst, ◌∙◌, arith}
 use Rattle.rooms_val.specs.Data.{map, members_of}
 use Rattle.field_ops.specs.Entries.{AreRising, with_key}
-use Rattle.field_ops.specs.ViewChanges.{change_of, changes_view}
-use Rattle.field_ops.specs.WireChanges.{change_data, diff_pairs, diff_data}
+use Rattle.field_ops.specs.ViewRecordOps.{change_of, changes_view}
+use Rattle.field_ops.specs.WireRecordOps.{change_data, diff_pairs, diff_data}
 use Rattle.field_ops.proofs.Sent.{sends_records, rising_records_sent}
 use Rattle.field_ops.proofs.Soundness.{rising_records}
 use Rattle.field_ops.proofs.Stages.{Going, going_first, going_next, going_done}

@@ -1,6 +1,6 @@
 use Rattle.std.proofs.Common.{option_map, sym, ap, subst, ◌∙◌}
 use Rattle.field_ops.specs.Entries.{value_at, with_key}
-use Rattle.field_ops.specs.Edits.{IsSoundPatch}
+use Rattle.field_ops.specs.ValueOps.{IsSoundPatch}
 use Rattle.field_ops.specs.View.{edit_of, patch_view}
 use Rattle.field_ops.proofs.ForRoomsVal.{at-seen, seen-with_key}
 use Rattle.field_ops.proofs.Soundness.{rising_ops, sound_put}

@@ -2,39 +2,39 @@
 use Rattle.std.specs.Prelude.{ℕ, List, [], ◌∷◌, Bool, false, codes}
 use Rattle.rooms_val.specs.Data.{Data, IsSound}
 use Rattle.field_ops.specs.Entries.{AreRising}
-use Rattle.field_ops.specs.Edits.{Patch, edits_of, IsSoundPatch, edits_have_append}
+use Rattle.field_ops.specs.ValueOps.{Patch, edits_of, IsSoundPatch, edits_have_append}
 
-pub data Change : Type 0 where
-  put : Data → Change
-  patch : Patch → Change
-  remove : Change
+pub data RecordOpTree : Type 0 where
+  put : Data → RecordOpTree
+  patch : Patch → RecordOpTree
+  remove : RecordOpTree
 
 -- the name of an operation
-abbrev pub change_name : Change → List ℕ
+abbrev pub change_name : RecordOpTree → List ℕ
 change_name (put d) = codes "put"
 change_name (patch p) = codes "patch"
 change_name remove = codes "remove"
 
 -- the ids that a diff names with their operations, in order
-abbrev pub Changes : Type 0
-Changes = List (List ℕ × Change)
+abbrev pub RecordOps : Type 0
+RecordOps = List (List ℕ × RecordOpTree)
 
 -- the operation's patches and values are sound
-abbrev pub IsSoundChange : Change → Type 0
+abbrev pub IsSoundChange : RecordOpTree → Type 0
 IsSoundChange (put d) = IsSound d
 IsSoundChange (patch p) = IsSoundPatch p
 IsSoundChange remove = Unit {0}
 
-abbrev pub AreSoundChanges : Changes → Type 0
+abbrev pub AreSoundChanges : RecordOps → Type 0
 AreSoundChanges [] = Unit {0}
 AreSoundChanges (c ∷ cs) = IsSoundChange c.1 × AreSoundChanges cs
 
 -- a diff whose operations are sound and whose ids rise
-abbrev pub IsSoundDiff : Changes → Type 0
+abbrev pub IsSoundDiff : RecordOps → Type 0
 IsSoundDiff cs = AreRising cs × AreSoundChanges cs
 
 -- whether an append stands anywhere in the operation
-abbrev pub has_append : Change → Bool
+abbrev pub has_append : RecordOpTree → Bool
 has_append (put d) = false
 has_append (patch p) = edits_have_append (edits_of p)
 has_append remove = false

@@ -4,11 +4,11 @@ use Rattle.std.specs.Option.{option_and_then}
 use Rattle.rooms_val.specs.Data.{Data, null, boolean, whole, text, list, map, Pairs, Items, item, no_items, items_of, list_of, Members, no_members, member, members_of, pairs_of, IsSound, AreSoundItems, AreSoundMembers}
 use Rattle.rooms_val.proofs.Views.{pairs_of-members_of, sound_put, sound_where}
 use Rattle.field_ops.specs.Entries.{AreRising, value_at, set_at}
-use Rattle.field_ops.specs.Edits.{Edit, put, patch, append, delete, Edits, no_edits, edit_at, edits_of, patch_of, Patch, edit_has_append, edits_have_append, IsSoundEdit, AreSoundEdits}
-use Rattle.field_ops.specs.Changes as change
+use Rattle.field_ops.specs.ValueOps.{ValueOpTree, put, patch, append, delete, ValueOpTrees, no_edits, edit_at, edits_of, patch_of, Patch, edit_has_append, edits_have_append, IsSoundEdit, AreSoundEdits}
+use Rattle.field_ops.specs.RecordOps as change
 use Rattle.field_ops.specs.Patched.{edited, patched, value_after, raw}
-use Rattle.field_ops.specs.Inverted.{undo, inverted, inverse}
-use Rattle.field_ops.specs.Joined.{after, both, edit_after, in_turn}
+use Rattle.field_ops.specs.Inverses.{undo, inverted, inverse}
+use Rattle.field_ops.specs.Compose.{after, both, edit_after, in_turn}
 use Rattle.field_ops.specs.Laws.{IsSoundRecord, raw_after}
 use Rattle.field_ops.proofs.ForRoomsVal.{ties, same_pairs}
 use Rattle.field_ops.proofs.ByKey.{at-patched, at-inverted, at-both, rising-patched}
@@ -27,16 +27,16 @@ sound_in : (ms : Members) (k : List ℕ) → AreSoundMembers ms → IsSoundRecor
 sound_in ms k each = sound_at (pairs_of ms) k (subst AreSoundMembers (sym (members_of-pairs_of ms)) each)
 
 -- what holds of a patch wherever it holds of its operations holds of every operation
-module _ (P : Edit → Type 0) (of_put : (d : Data) → P (put d)) (of_patch : (p : Patch) → ((k : List ℕ) (e : Edit) → value_at p k ≡ Some e → P e) → P (patch (edits_of p)))
+module _ (P : ValueOpTree → Type 0) (of_put : (d : Data) → P (put d)) (of_patch : (p : Patch) → ((k : List ℕ) (e : ValueOpTree) → value_at p k ≡ Some e → P e) → P (patch (edits_of p)))
     (of_append : (ds : List Data) (n : ℕ) → P (append ds n)) (of_delete : P delete) where
   mutual
-    pub every : (e : Edit) → P e
+    pub every : (e : ValueOpTree) → P e
     every (put d) = of_put d
     every (patch es) = subst (λ t. P (patch t)) (edits_of-patch_of es) (of_patch (patch_of es) (every_at es))
     every (append ds n) = of_append ds n
     every delete = of_delete
 
-    every_at : (es : Edits) (k : List ℕ) (e : Edit) → value_at (patch_of es) k ≡ Some e → P e
+    every_at : (es : ValueOpTrees) (k : List ℕ) (e : ValueOpTree) → value_at (patch_of es) k ≡ Some e → P e
     every_at no_edits k e is = absurd (cc)
     every_at (edit_at l f es) k e is = elim (ties k l) as (λ b. cond b (Some f) (value_at (patch_of es) k) ≡ Some e → P e) [
       | true ↦ λ same. let one : f ≡ e = cc in subst P one (every f)
@@ -44,15 +44,15 @@ module _ (P : Edit → Type 0) (of_put : (d : Data) → P (put d)) (of_patch : (
     ] is
 
 -- after the operation that undoes it a value is as before
-abbrev Undone : Edit → Type 0
+abbrev Undone : ValueOpTree → Type 0
 Undone e = (o : Option Data) → IsSoundRecord o → value_after (undo e o) (edited e o) ≡ o
 
-undone_at : (f : Pairs) (k : List ℕ) (e : Option Edit) → ((d : Edit) → e ≡ Some d → Undone d) → IsSoundRecord (value_at f k)
+undone_at : (f : Pairs) (k : List ℕ) (e : Option ValueOpTree) → ((d : ValueOpTree) → e ≡ Some d → Undone d) → IsSoundRecord (value_at f k)
     → value_after (option_and_then (λ d. undo d (value_at f k)) e) (value_after e (value_at f k)) ≡ value_at f k
 undone_at f k None each sound = refl
 undone_at f k (Some e) each sound = each e refl (value_at f k) sound
 
-map_back : (p : Patch) (f : Pairs) → ((k : List ℕ) (e : Edit) → value_at p k ≡ Some e → Undone e) → AreRising f → ((k : List ℕ) → IsSoundRecord (value_at f k))
+map_back : (p : Patch) (f : Pairs) → ((k : List ℕ) (e : ValueOpTree) → value_at p k ≡ Some e → Undone e) → AreRising f → ((k : List ℕ) → IsSoundRecord (value_at f k))
     → patched (edits_of (inverted (edits_of p) f)) (patched (edits_of p) f) ≡ f
 map_back p f each rising sound =
     same_pairs _ f (rising-patched (edits_of (inverted (edits_of p) f)) (patched (edits_of p) f) (rising-patched (edits_of p) f rising)) rising (λ k.
@@ -60,7 +60,7 @@ map_back p f each rising sound =
     ∙ (λ i. value_after (at-inverted p f k i) (at-patched p f k i))
     ∙ undone_at f k (value_at p k) (each k) (sound k))
 
-undone_patch : (p : Patch) → ((k : List ℕ) (e : Edit) → value_at p k ≡ Some e → Undone e) → Undone (patch (edits_of p))
+undone_patch : (p : Patch) → ((k : List ℕ) (e : ValueOpTree) → value_at p k ≡ Some e → Undone e) → Undone (patch (edits_of p))
 undone_patch p each None sound = refl
 undone_patch p each (Some null) sound = refl
 undone_patch p each (Some (boolean b)) sound = refl
@@ -94,10 +94,10 @@ undone_append ds n (Some (text s)) sound = refl
 undone_append ds n (Some (list es)) sound = undone_list ds n es (nat_eq (length (list_of es)) n)
 undone_append ds n (Some (map ms)) sound = refl
 
-undone : (e : Edit) → Undone e
+undone : (e : ValueOpTree) → Undone e
 undone = every Undone undone_put undone_patch undone_append undone_delete
 
-pub brings_back : (c : change.Change) (r : Option Data) → IsSoundRecord r → raw_after (inverse c r) (raw c r) ≡ r
+pub brings_back : (c : change.RecordOpTree) (r : Option Data) → IsSoundRecord r → raw_after (inverse c r) (raw c r) ≡ r
 brings_back (change.put d) None sound = refl
 brings_back (change.put d) (Some r) sound = refl
 brings_back (change.patch p) None sound = refl
@@ -111,8 +111,8 @@ brings_back change.remove None sound = refl
 brings_back change.remove (Some r) sound = refl
 
 -- the one operation does what the two do in turn
-abbrev Joins : Edit → Type 0
-Joins e = edit_has_append e ≡ false → (d : Edit) → edit_has_append d ≡ false → (o : Option Data) → IsSoundRecord o → edited (after e d) o ≡ edited e (edited d o)
+abbrev Joins : ValueOpTree → Type 0
+Joins e = edit_has_append e ≡ false → (d : ValueOpTree) → edit_has_append d ≡ false → (o : Option Data) → IsSoundRecord o → edited (after e d) o ≡ edited e (edited d o)
 
 or_left : (a b : Bool) → (a || b) ≡ false → a ≡ false
 or_left true b h = h
@@ -122,20 +122,20 @@ or_right : (a b : Bool) → (a || b) ≡ false → b ≡ false
 or_right true b h = cc
 or_right false b h = h
 
-plain_at : (p : Patch) (k : List ℕ) (e : Edit) → edits_have_append (edits_of p) ≡ false → value_at p k ≡ Some e → edit_has_append e ≡ false
+plain_at : (p : Patch) (k : List ℕ) (e : ValueOpTree) → edits_have_append (edits_of p) ≡ false → value_at p k ≡ Some e → edit_has_append e ≡ false
 plain_at [] k e plain is = cc
 plain_at (d ∷ p) k e plain is = elim (ties k d.0) as (λ b. cond b (Some d.1) (value_at p k) ≡ Some e → edit_has_append e ≡ false) [
   | true ↦ λ same. let one : d.1 ≡ e = cc in subst (λ x. edit_has_append x ≡ false) one (or_left (edit_has_append d.1) (edits_have_append (edits_of p)) plain)
   | false ↦ λ later. plain_at p k e (or_right (edit_has_append d.1) (edits_have_append (edits_of p)) plain) later
 ] is
 
-joins_at : (v : Option Data) → IsSoundRecord v → (b a : Option Edit) → ((e : Edit) → b ≡ Some e → Joins e) → ((e : Edit) → b ≡ Some e → edit_has_append e ≡ false) → ((d : Edit) → a ≡ Some d → edit_has_append d ≡ false)
+joins_at : (v : Option Data) → IsSoundRecord v → (b a : Option ValueOpTree) → ((e : ValueOpTree) → b ≡ Some e → Joins e) → ((e : ValueOpTree) → b ≡ Some e → edit_has_append e ≡ false) → ((d : ValueOpTree) → a ≡ Some d → edit_has_append d ≡ false)
     → value_after (edit_after b a) v ≡ value_after b (value_after a v)
 joins_at v sound None a each later earlier = refl
 joins_at v sound (Some e) None each later earlier = refl
 joins_at v sound (Some e) (Some d) each later earlier = each e refl (later e refl) d (earlier d refl) v sound
 
-map_turn : (q p : Patch) (f : Pairs) → ((k : List ℕ) (e : Edit) → value_at q k ≡ Some e → Joins e) → edits_have_append (edits_of q) ≡ false → edits_have_append (edits_of p) ≡ false → AreRising f → ((k : List ℕ) → IsSoundRecord (value_at f k))
+map_turn : (q p : Patch) (f : Pairs) → ((k : List ℕ) (e : ValueOpTree) → value_at q k ≡ Some e → Joins e) → edits_have_append (edits_of q) ≡ false → edits_have_append (edits_of p) ≡ false → AreRising f → ((k : List ℕ) → IsSoundRecord (value_at f k))
     → patched (edits_of (both (edits_of q) p)) f ≡ patched (edits_of q) (patched (edits_of p) f)
 map_turn q p f each later earlier rising sound =
     same_pairs _ _ (rising-patched (edits_of (both (edits_of q) p)) f rising) (rising-patched (edits_of q) (patched (edits_of p) f) (rising-patched (edits_of p) f rising)) (λ k.
@@ -144,7 +144,7 @@ map_turn q p f each later earlier rising sound =
     ∙ joins_at (value_at f k) (sound k) (value_at q k) (value_at p k) (each k) (λ e is. plain_at q k e later is) (λ d is. plain_at p k d earlier is)
     ∙ sym (at-patched q (patched (edits_of p) f) k ∙ ap (λ v. value_after (value_at q k) v) (at-patched p f k)))
 
-joins_map : (q p : Patch) → ((k : List ℕ) (e : Edit) → value_at q k ≡ Some e → Joins e) → edits_have_append (edits_of q) ≡ false → edits_have_append (edits_of p) ≡ false → (o : Option Data) → IsSoundRecord o
+joins_map : (q p : Patch) → ((k : List ℕ) (e : ValueOpTree) → value_at q k ≡ Some e → Joins e) → edits_have_append (edits_of q) ≡ false → edits_have_append (edits_of p) ≡ false → (o : Option Data) → IsSoundRecord o
     → edited (patch (edits_of (both (edits_of q) p))) o ≡ edited (patch (edits_of q)) (edited (patch (edits_of p)) o)
 joins_map q p each later earlier None sound = refl
 joins_map q p each later earlier (Some null) sound = refl
@@ -156,17 +156,17 @@ joins_map q p each later earlier (Some (map ms)) sound =
     ap (λ g. Some (map (members_of g))) (map_turn q p (pairs_of ms) each later earlier sound.0 (λ k. sound_in ms k sound.1)
     ∙ ap (λ g. patched (edits_of q) g) (sym (pairs_of-members_of (patched (edits_of p) (pairs_of ms)))))
 
-joins_patch : (q : Patch) → ((k : List ℕ) (e : Edit) → value_at q k ≡ Some e → Joins e) → Joins (patch (edits_of q))
+joins_patch : (q : Patch) → ((k : List ℕ) (e : ValueOpTree) → value_at q k ≡ Some e → Joins e) → Joins (patch (edits_of q))
 joins_patch q each later (put d) earlier o sound = refl
 joins_patch q each later (patch es) earlier o sound =
     joins_map q (patch_of es) each later (ap edits_have_append (edits_of-patch_of es) ∙ earlier) o sound ∙ ap (λ t. edited (patch (edits_of q)) (edited (patch t) o)) (edits_of-patch_of es)
 joins_patch q each later (append ds n) earlier o sound = cc
 joins_patch q each later delete earlier o sound = refl
 
-joins : (e : Edit) → Joins e
+joins : (e : ValueOpTree) → Joins e
 joins = every Joins (λ d later first earlier o sound. refl) joins_patch (λ ds n later first earlier o sound. cc) (λ later first earlier o sound. refl)
 
-pub does_both : (a b : change.Change) (r : Option Data) → change.has_append a ≡ false → change.has_append b ≡ false → IsSoundRecord r → raw (in_turn a b) r ≡ raw b (raw a r)
+pub does_both : (a b : change.RecordOpTree) (r : Option Data) → change.has_append a ≡ false → change.has_append b ≡ false → IsSoundRecord r → raw (in_turn a b) r ≡ raw b (raw a r)
 does_both a (change.put d) r earlier later sound = refl
 does_both (change.put d) (change.patch q) r earlier later sound = refl
 does_both (change.patch p) (change.patch q) r earlier later sound = joins_map q p (λ k e is. joins e) later earlier r sound
@@ -191,7 +191,7 @@ sound_set f k (Some d) sound new = sound_put f k d sound new
 
 -- sound operations leave what is sound sound
 mutual
-  sound_edited : (e : Edit) → IsSoundEdit e → (o : Option Data) → IsSoundRecord o → IsSoundRecord (edited e o)
+  sound_edited : (e : ValueOpTree) → IsSoundEdit e → (o : Option Data) → IsSoundRecord o → IsSoundRecord (edited e o)
   sound_edited (put d) new o old = new
   sound_edited (patch es) new None old = tt
   sound_edited (patch es) new (Some null) old = old
@@ -209,12 +209,12 @@ mutual
   sound_edited (append ds n) new (Some (map ms)) old = old
   sound_edited delete new o old = tt
 
-  sound_patched : (es : Edits) → AreSoundEdits es → (f : Pairs) → IsSound (map (members_of f)) → IsSound (map (members_of (patched es f)))
+  sound_patched : (es : ValueOpTrees) → AreSoundEdits es → (f : Pairs) → IsSound (map (members_of f)) → IsSound (map (members_of (patched es f)))
   sound_patched no_edits new f sound = sound
   sound_patched (edit_at k e es) new f sound =
       sound_set (patched es f) k (edited e (value_at f k)) (sound_patched es new.1 f sound) (sound_edited e new.0 (value_at f k) (sound_at f k sound.1))
 
-pub sound_raw : (c : change.Change) (r : Option Data) → change.IsSoundChange c → IsSoundRecord r → IsSoundRecord (raw c r)
+pub sound_raw : (c : change.RecordOpTree) (r : Option Data) → change.IsSoundChange c → IsSoundRecord r → IsSoundRecord (raw c r)
 sound_raw (change.put d) r new old = new
 sound_raw (change.patch p) r new old = sound_edited (patch (edits_of p)) new r old
 sound_raw change.remove r new old = tt

@@ -1,13 +1,13 @@
 use Rattle.std.proofs.Common.{ℕ, ◌+◌, ◌*◌, List, [], Option, drop}
 use Rattle.std.specs.Option.{option_and_then}
 use Rattle.rooms_val.specs.Data.{Pairs}
-use Rattle.field_ops.specs.Edits.{Edit, edits_of, edit_depth, edits_depth}
+use Rattle.field_ops.specs.ValueOps.{ValueOpTree, edits_of, edit_depth, edits_depth}
 use Rattle.field_ops.specs.Entries.{value_at}
-use Rattle.field_ops.specs.Inverted as inverted
+use Rattle.field_ops.specs.Inverses as inverted
 use Rattle.field_ops.specs.View.{edit_of}
 use Rattle.field_ops.specs.declared.value_op.ValueOp.{ValueOp}
 use Rattle.field_ops.proofs.Stages.{Going}
-use Rattle.field_ops.proofs.undoing.+inverse.Given as goal
+use Rattle.field_ops.proofs.inverses.+inverse.Given as goal
 
 abbrev pub decreases-inverse_object : goal.decreases-inverse_object
 decreases-inverse_object l = 3 * edits_depth (edits_of l.diff.now) + 1
@@ -19,7 +19,7 @@ abbrev pub decreases-undo_patch : goal.decreases-undo_patch
 decreases-undo_patch l = 3 * edits_depth (edits_of l.diff.now) + 2
 
 -- what a key gives: the operation that brings its value back
-abbrev pub undone_at : Pairs → List ℕ → Option ℕ → Option ValueOp → Option Edit
+abbrev pub undone_at : Pairs → List ℕ → Option ℕ → Option ValueOp → Option ValueOpTree
 undone_at f q _ op = option_and_then (λ o. inverted.undo (edit_of o) (value_at f q)) op
 
 abbrev pub invariant-inverse_object-loop-key : goal.invariant-inverse_object-loop-key

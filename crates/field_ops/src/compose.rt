@@ -1,11 +1,11 @@
 //! The one operation that does two in turn.
 ghost use Rattle.std.specs.Prelude.{◌≡◌, false, IfOk};
 ghost use Rattle.std.specs.Option.{option_copied};
-ghost use Rattle.field_ops.specs.Changes.{has_append};
-ghost use Rattle.field_ops.specs.Edits.{edits_of};
+ghost use Rattle.field_ops.specs.RecordOps.{has_append};
+ghost use Rattle.field_ops.specs.ValueOps.{edits_of};
 ghost use Rattle.field_ops.specs.View.{edit_of, maybe_edit};
-ghost use Rattle.field_ops.specs.ViewChanges.{change_of};
-ghost use Rattle.field_ops.specs.Joined as joined;
+ghost use Rattle.field_ops.specs.ViewRecordOps.{change_of};
+ghost use Rattle.field_ops.specs.Compose as joined;
 
 use crate::apply::patched_val;
 use crate::object_diff::ObjectDiff;

@@ -1,10 +1,10 @@
 use Rattle.std.proofs.Common.{◌≡◌, ℕ, List, length, Some, None, sym, ap, ◌∙◌, eq-eqb}
 use Rattle.std.proofs.lemmas.Bool.{ne_eqb}
 use Rattle.rooms_val.specs.Data.{Data, list, items_of}
-use Rattle.field_ops.specs.Edits.{put}
-use Rattle.field_ops.specs.Inverted.{of_list}
+use Rattle.field_ops.specs.ValueOps.{put}
+use Rattle.field_ops.specs.Inverses.{of_list}
 use Rattle.field_ops.specs.Wire.{list_of-items_of}
-use Rattle.field_ops.proofs.undoing.undo_longer.Goals as goal
+use Rattle.field_ops.proofs.inverses.undo_longer.Goals as goal
 
 acts : (vs : List Data) (n : ℕ) → length vs ≡ n → Some (put (list (items_of vs))) ≡ of_list n (list (items_of vs))
 acts vs n is = rw (list_of-items_of vs, eq-eqb (length vs) n is)

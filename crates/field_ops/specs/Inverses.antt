@@ -3,11 +3,11 @@ use Rattle.std.specs.Prelude.{ℕ, [], length, nat_eq, if◌then◌else◌, Opti
 use Rattle.std.specs.Option.{option_and_then}
 use Rattle.rooms_val.specs.Data.{Data, null, boolean, whole, text, list, map, Pairs, list_of, pairs_of}
 use Rattle.field_ops.specs.Entries.{value_at, set_at}
-use Rattle.field_ops.specs.Edits.{Edit, put, patch, append, delete, Edits, no_edits, edit_at, edits_of, Patch}
-use Rattle.field_ops.specs.Changes as change
+use Rattle.field_ops.specs.ValueOps.{ValueOpTree, put, patch, append, delete, ValueOpTrees, no_edits, edit_at, edits_of, Patch}
+use Rattle.field_ops.specs.RecordOps as change
 
 -- the patch that a function makes of a map; of what is no map, none
-abbrev pub of_map : (Pairs → Patch) → Data → Option Edit
+abbrev pub of_map : (Pairs → Patch) → Data → Option ValueOpTree
 of_map f null = None
 of_map f (boolean b) = None
 of_map f (whole z) = None
@@ -16,7 +16,7 @@ of_map f (list ds) = None
 of_map f (map ms) = Some (patch (edits_of (f (pairs_of ms))))
 
 -- a put of a list of length n; of what is no such list, nothing
-abbrev pub of_list : ℕ → Data → Option Edit
+abbrev pub of_list : ℕ → Data → Option ValueOpTree
 of_list n null = None
 of_list n (boolean b) = None
 of_list n (whole z) = None
@@ -26,7 +26,7 @@ of_list n (map ms) = None
 
 abbrev mutual
   -- the operation that brings a value back, or its absence; none where the operation does nothing
-  pub undo : Edit → Option Data → Option Edit
+  pub undo : ValueOpTree → Option Data → Option ValueOpTree
   undo (put d) None = Some delete
   undo (put d) (Some old) = Some (put old)
   undo (patch es) old = option_and_then (of_map (λ f. inverted es f)) old
@@ -34,7 +34,7 @@ abbrev mutual
   undo delete old = option_map (λ d. put d) old
 
   -- the patch that brings a map back
-  pub inverted : Edits → Pairs → Patch
+  pub inverted : ValueOpTrees → Pairs → Patch
   inverted no_edits f = []
   inverted (edit_at k e es) f = set_at (inverted es f) k (undo e (value_at f k))
 
@@ -48,7 +48,7 @@ patch_back p (list ds) = []
 patch_back p (map ms) = inverted (edits_of p) (pairs_of ms)
 
 -- the operation that brings a record back, or its absence; none for a patch or remove of no record
-abbrev pub inverse : change.Change → Option Data → Option change.Change
+abbrev pub inverse : change.RecordOpTree → Option Data → Option change.RecordOpTree
 inverse (change.put d) None = Some change.remove
 inverse (change.put d) (Some r) = Some (change.put r)
 inverse (change.patch p) r = option_map (λ d. change.patch (patch_back p d)) r

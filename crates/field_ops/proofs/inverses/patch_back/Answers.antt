@@ -1,8 +1,8 @@
 use Rattle.std.proofs.Common.{sym, ap, ◌∙◌}
 use Rattle.rooms_val.proofs.Views.{pairs_of-members_of}
-use Rattle.field_ops.specs.Edits.{edits_of}
-use Rattle.field_ops.specs.Inverted.{inverted}
-use Rattle.field_ops.proofs.undoing.patch_back.Goals as goal
+use Rattle.field_ops.specs.ValueOps.{edits_of}
+use Rattle.field_ops.specs.Inverses.{inverted}
+use Rattle.field_ops.proofs.inverses.patch_back.Goals as goal
 
 pub returns-in_ok-inverse_object-in-Map : goal.returns-in_ok-inverse_object-in-Map
 returns-in_ok-inverse_object-in-Map c =

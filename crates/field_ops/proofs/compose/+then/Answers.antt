@@ -1,17 +1,17 @@
 use Rattle.std.proofs.Common.{◌≡◌, ℕ, List, arith, refl, sym, ap, subst, ◌∙◌}
-use Rattle.field_ops.specs.Edits.{Patch, patch, edits_of}
+use Rattle.field_ops.specs.ValueOps.{Patch, patch, edits_of}
 use Rattle.field_ops.specs.Entries.{value_at}
-use Rattle.field_ops.specs.Joined.{both, edit_after}
+use Rattle.field_ops.specs.Compose.{both, edit_after}
 use Rattle.field_ops.specs.View.{edit_of, patch_view, maybe_edit}
-use Rattle.field_ops.specs.WireChanges.{patch_of-edits_of}
+use Rattle.field_ops.specs.WireRecordOps.{patch_of-edits_of}
 use Rattle.field_ops.specs.declared.value_op.ValueOp.{ValueOp}
 use Rattle.field_ops.proofs.Depths.{depth_found, depth_rest}
 use Rattle.field_ops.proofs.ForRoomsVal.{at-seen}
 use Rattle.field_ops.proofs.ByKey.{at-both, rising-both}
 use Rattle.field_ops.proofs.Soundness.{rising_patch, rising_slice}
 use Rattle.field_ops.proofs.Stages.{Going, going_from, going_on, gone}
-use Rattle.field_ops.proofs.joining.+then.Invariants.{joined_at}
-use Rattle.field_ops.proofs.joining.+then.Goals as goal
+use Rattle.field_ops.proofs.compose.+then.Invariants.{joined_at}
+use Rattle.field_ops.proofs.compose.+then.Goals as goal
 
 looks : (ls rs : List (List ℕ × ValueOp)) (p q : Patch) → patch_view ls ≡ p → patch_view rs ≡ q → (k : List ℕ) → joined_at k (value_at ls k) (value_at rs k) ≡ value_at (both (edits_of q) p) k
 looks ls rs p q firsts seconds k =

@@ -3,10 +3,10 @@ ghost use Rattle.std.specs.Prelude.{◌≡◌, IfOk};
 ghost use Rattle.std.specs.Option.{option_copied};
 ghost use Rattle.rooms_val.specs.Data.{list, items_of};
 ghost use Rattle.rooms_val.specs.View.{data_of};
-ghost use Rattle.field_ops.specs.Edits.{edits_of};
+ghost use Rattle.field_ops.specs.ValueOps.{edits_of};
 ghost use Rattle.field_ops.specs.View.{edit_of, maybe_data, maybe_edit};
-ghost use Rattle.field_ops.specs.ViewChanges.{change_of, maybe_change};
-ghost use Rattle.field_ops.specs.Inverted as inverted;
+ghost use Rattle.field_ops.specs.ViewRecordOps.{change_of, maybe_change};
+ghost use Rattle.field_ops.specs.Inverses as inverted;
 
 use crate::object_diff::ObjectDiff;
 use crate::record_op::RecordOp;

@@ -4,18 +4,18 @@ use Rattle.rooms_val.specs.Data.{Data, IsSound, AreSoundItems, items_of}
 use Rattle.field_ops.specs.Entries.{AreRising}
 
 mutual
-  pub data Edit : Type 0 where
-    put : Data → Edit
-    patch : Edits → Edit
-    append : List Data → ℕ → Edit
-    delete : Edit
+  pub data ValueOpTree : Type 0 where
+    put : Data → ValueOpTree
+    patch : ValueOpTrees → ValueOpTree
+    append : List Data → ℕ → ValueOpTree
+    delete : ValueOpTree
 
-  pub data Edits : Type 0 where
-    no_edits : Edits
-    edit_at : List ℕ → Edit → Edits → Edits
+  pub data ValueOpTrees : Type 0 where
+    no_edits : ValueOpTrees
+    edit_at : List ℕ → ValueOpTree → ValueOpTrees → ValueOpTrees
 
 -- the name of an operation
-abbrev pub edit_name : Edit → List ℕ
+abbrev pub edit_name : ValueOpTree → List ℕ
 edit_name (put d) = codes "put"
 edit_name (patch es) = codes "patch"
 edit_name (append ds n) = codes "append"
@@ -23,25 +23,25 @@ edit_name delete = codes "delete"
 
 -- the keys that a patch names with their operations, in order
 abbrev pub Patch : Type 0
-Patch = List (List ℕ × Edit)
+Patch = List (List ℕ × ValueOpTree)
 
-abbrev pub edits_of : Patch → Edits
+abbrev pub edits_of : Patch → ValueOpTrees
 edits_of [] = no_edits
 edits_of (p ∷ ps) = edit_at p.0 p.1 (edits_of ps)
 
-abbrev pub patch_of : Edits → Patch
+abbrev pub patch_of : ValueOpTrees → Patch
 patch_of no_edits = []
 patch_of (edit_at k e es) = (k, e) ∷ patch_of es
 
 -- the keys of every patch in the operation rise, its values are sound, and its offsets fit 32 bits
 abbrev mutual
-  pub IsSoundEdit : Edit → Type 0
+  pub IsSoundEdit : ValueOpTree → Type 0
   IsSoundEdit (put d) = IsSound d
   IsSoundEdit (patch es) = AreRising (patch_of es) × AreSoundEdits es
   IsSoundEdit (append ds n) = AreSoundItems (items_of ds) × (n < 2 ^ 32)
   IsSoundEdit delete = Unit {0}
 
-  pub AreSoundEdits : Edits → Type 0
+  pub AreSoundEdits : ValueOpTrees → Type 0
   AreSoundEdits no_edits = Unit {0}
   AreSoundEdits (edit_at k e es) = IsSoundEdit e × AreSoundEdits es
 
@@ -51,24 +51,24 @@ IsSoundPatch p = IsSoundEdit (patch (edits_of p))
 
 -- how deep patches nest
 abbrev mutual
-  pub edit_depth : Edit → ℕ
+  pub edit_depth : ValueOpTree → ℕ
   edit_depth (put d) = 0
   edit_depth (patch es) = suc (edits_depth es)
   edit_depth (append ds n) = 0
   edit_depth delete = 0
 
-  pub edits_depth : Edits → ℕ
+  pub edits_depth : ValueOpTrees → ℕ
   edits_depth no_edits = 0
   edits_depth (edit_at k e es) = max (edit_depth e) (edits_depth es)
 
 -- whether an append stands anywhere in the operation
 abbrev mutual
-  pub edit_has_append : Edit → Bool
+  pub edit_has_append : ValueOpTree → Bool
   edit_has_append (put d) = false
   edit_has_append (patch es) = edits_have_append es
   edit_has_append (append ds n) = true
   edit_has_append delete = false
 
-  pub edits_have_append : Edits → Bool
+  pub edits_have_append : ValueOpTrees → Bool
   edits_have_append no_edits = false
   edits_have_append (edit_at k e es) = edit_has_append e || edits_have_append es
