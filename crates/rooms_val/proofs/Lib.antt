@@ -1,5 +1,8 @@
-pub mod Places
-pub mod Views
-pub mod FromJson
-pub mod ToJson
-pub mod Reading
+pub mod ListLemmas
+pub mod MapsLemmas
+pub mod PlacesLemmas
+pub mod DataLemmas
+pub mod OrderLemmas
+pub mod FromJsonLemmas
+pub mod ToJsonLemmas
+pub mod JsonLemmas

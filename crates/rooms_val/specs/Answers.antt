@@ -1,4 +1,4 @@
--- Answers that may be want of memory, which no clause ties to a cause.
+-- Results that may be out of memory, which no clause ties to a cause.
 use Rattle.std.specs.Prelude.{◌≡◌, Result, Ok, Err}
 
 -- the answer is the defined one, seen by view, unless memory ran out

@@ -1,8 +1,6 @@
 -- What a JSON value is, as a tree that shares nothing with how the code keeps it.
-use Rattle.std.specs.Prelude.{ℕ, suc, max, ℤ, List, [], ◌∷◌, Bool, T}
-use Rattle.std.specs.Ordering.{nat_cmp}
-use Rattle.std.specs.Cmp.Lexicographic.{slice_cmp}
-use Rattle.std.specs.FinMap.Entries.{is_sorted}
+use Rattle.std.specs.Prelude.{ℕ, suc, max, ℤ, List, [], ◌∷◌, Bool, Option, Some, None}
+use Rattle.rooms_val.specs.Maps.{AreRising}
 
 mutual
   pub data Data : Type 0 where
@@ -41,10 +39,6 @@ abbrev pub pairs_of : Members → Pairs
 pairs_of no_members = []
 pairs_of (member k d ms) = (k, d) ∷ pairs_of ms
 
--- the keys rise by bytes, so that none stands twice
-abbrev pub has_rising_keys : Pairs → Bool
-has_rising_keys = is_sorted (slice_cmp nat_cmp)
-
 -- the keys of every map in the value rise
 abbrev mutual
   pub IsSound : Data → Type 0
@@ -53,7 +47,7 @@ abbrev mutual
   IsSound (whole z) = Unit {0}
   IsSound (text s) = Unit {0}
   IsSound (list ds) = AreSoundItems ds
-  IsSound (map ms) = T (has_rising_keys (pairs_of ms)) × AreSoundMembers ms
+  IsSound (map ms) = AreRising (pairs_of ms) × AreSoundMembers ms
 
   pub AreSoundItems : Items → Type 0
   AreSoundItems no_items = Unit {0}
@@ -62,6 +56,11 @@ abbrev mutual
   pub AreSoundMembers : Members → Type 0
   AreSoundMembers no_members = Unit {0}
   AreSoundMembers (member k d ms) = IsSound d × AreSoundMembers ms
+
+-- the value is sound, or there is none
+abbrev pub IsSoundRecord : Option Data → Type 0
+IsSoundRecord None = Unit {0}
+IsSoundRecord (Some d) = IsSound d
 
 -- how deep lists and maps nest: 1 for an empty one, 0 for any other value
 abbrev mutual

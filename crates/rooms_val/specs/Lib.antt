@@ -1,8 +1,11 @@
+pub mod Maps
 pub mod Data
 pub mod Code
 pub mod View
 pub mod Falls
-pub mod Maps
+pub mod Kinds
+pub mod Order
+pub mod OrderLaws
 pub mod Weight
 pub mod Json
 pub mod Answers

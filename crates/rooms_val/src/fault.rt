@@ -1,12 +1,13 @@
-//! Why bytes are no value, and why a value is no operation.
+//! Why bytes are no value, why a value is no operation, and why a transaction is refused.
 ghost use Rattle.std.specs.Prelude.{◌≡◌};
 ghost use Rattle.rooms_val.specs.declared.fault.ValFault.TheVariants as val_fault;
 ghost use Rattle.rooms_val.specs.declared.fault.OpFault.TheVariants as op_fault;
+ghost use Rattle.rooms_val.specs.declared.fault.TxnFault.TheVariants as txn_fault;
 
 use crate::memory::OutOfMemory;
 use thiserror::Error;
 
-/// Why bytes aren't read as a value. Of several causes the first in this order is answered.
+/// Why bytes aren't read as a value. Of several causes the first in this order is returned.
 #[derive(Clone, Copy, Debug, PartialEq, Eq, Error)]
 pub enum ValFault {
     /// The bytes are no JSON: no UTF-8, no JSON text, more than 127 levels deep, or with a number beyond every float.
@@ -50,5 +51,24 @@ impl From<OutOfMemory> for OpFault {
 
     fn from(_refused: OutOfMemory) -> OpFault {
         OpFault::OutOfMemory
+    }
+}
+
+/// Why a transaction is refused.
+#[derive(Clone, Copy, Debug, PartialEq, Eq, Error)]
+pub enum TxnFault {
+    /// As many transactions are open as may be.
+    #[error("too many transactions are open")]
+    TooNested,
+    /// Memory was refused.
+    #[error("out of memory")]
+    OutOfMemory,
+}
+
+impl From<OutOfMemory> for TxnFault {
+    ghost from_gives = { λ _ e. e ≡ txn_fault.OutOfMemory };
+
+    fn from(_refused: OutOfMemory) -> TxnFault {
+        TxnFault::OutOfMemory
     }
 }

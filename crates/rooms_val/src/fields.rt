@@ -1,18 +1,14 @@
 //! The keys of a map with their values.
 ghost use Rattle.std.specs.Prelude.{◌≡◌, ◌^◌, ◌-◌, min, [], length, IfOk, OnOk, OnErr, option_map, slice_get, IsTrue, ◌↔◌};
-ghost use Rattle.std.specs.Prelude.{T, IfErr};
-ghost use Rattle.std.specs.Ordering.{nat_cmp};
-ghost use Rattle.std.specs.Cmp.Lexicographic.{slice_cmp};
-ghost use Rattle.std.specs.FinMap.Entries.{is_sorted};
-ghost use Rattle.rooms_val.specs.Places.{IsPlace, IsGap};
 
+use crate::entries;
 use crate::memory::Mem;
 use crate::text::Text;
 use crate::val::Val;
 use serde_json::{Map, Value};
 use std::alloc::Global;
+use std::cmp::Ordering;
 use std::marker::Model;
-use std::mem;
 
 /// A map from texts to values. Contracts see its pairs, whose keys rise by bytes.
 #[cycle(val)]
@@ -45,8 +41,10 @@ impl Model for Fields {
 
 impl Fields {
     ghost use Rattle.rooms_val.specs.Data.{members_of, IsSound, map};
-    ghost use Rattle.rooms_val.specs.Maps.{get, put, without};
+    ghost use Rattle.rooms_val.specs.Kinds.{text_at, number_at};
+    ghost use Rattle.rooms_val.specs.Maps.{value_at, with_key, without_key};
     ghost use Rattle.rooms_val.specs.Json.{json_members};
+    ghost use Rattle.rooms_val.specs.Order.{members_cmp};
     ghost use Rattle.rooms_val.specs.View.{data_of, pairs_view};
     ghost use Rattle.rooms_val.specs.Weight.{members_weight};
     ghost use Rattle.serde_json.specs.View.{members_view};
@@ -98,43 +96,48 @@ impl Fields {
         self.entries
     }
 
-    /// The value under a key. `None` exactly where the map lacks the key. It costs a logarithm of the map's size.
+    /// The value under a key. `None` exactly if the map lacks the key. It costs a logarithm of the map's size.
     pub fn get(&self, key: &str) -> Option<&Val>
-        ensures { option_map (λ v. data_of v.now) result ≡ get self.now key.now }
+        ensures { option_map (λ v. data_of v.now) result ≡ value_at self.now key.now }
     {
-        match place_of(&self.entries, key) {
-            Ok(place) => Some(&self.entries[place].1),
-            Err(_) => None,
-        }
+        entries::get(&self.entries, key)
     }
 
-    /// Sets the value under a key, and answers the one before. Where memory is refused the map is as before. A key
+    /// The text under a key. `None` exactly if the map lacks the key or has another kind of value there. It costs a
+    /// logarithm of the map's size.
+    pub fn text_at(&self, key: &str) -> Option<&str>
+        ensures { option_map (λ t. t.now) result ≡ text_at self.now key.now }
+    {
+        self.get(key)?.as_text()
+    }
+
+    /// The number under a key. `None` exactly if the map lacks the key or has another kind of value there. It costs
+    /// a logarithm of the map's size.
+    pub fn number_at(&self, key: &str) -> Option<i64>
+        ensures { result ≡ number_at self.now key.now }
+    {
+        self.get(key)?.as_int()
+    }
+
+    /// Sets the value under a key, and returns the one before. Where memory is refused the map is as before. A key
     /// beyond all others is added at the cost of one comparison.
     pub fn put(&mut self, key: Text, val: Val) -> Mem<Option<Val>>
-        ensures old { IfOk result (λ v. option_map data_of v ≡ get self.old key) }
-        ensures ok { OnOk result (self.new ≡ put self.old key (data_of val)) }
+        ensures old { IfOk result (λ v. option_map data_of v ≡ value_at self.old key) }
+        ensures ok { OnOk result (self.new ≡ with_key self.old key (data_of val)) }
         ensures err { OnErr result (self.new ≡ self.old) }
     {
         // That a value is sound is told by its kind.
         let _ = val.kind();
-        match place_to_put(&self.entries, key.as_str()) {
-            Ok(place) => Ok(Some(mem::replace(&mut self.entries[place].1, val))),
-            Err(place) => {
-                self.entries.insert(place, (key, val))?;
-                Ok(None)
-            }
-        }
+        let old = entries::put(&mut self.entries, key, val)?;
+        Ok(old)
     }
 
-    /// Takes a key away, and answers the value that it had. `None` exactly where the map lacks the key.
+    /// Takes a key away, and returns the value that it had. `None` exactly if the map lacks the key.
     pub fn take(&mut self, key: &str) -> Option<Val>
-        ensures old { option_map data_of result ≡ get self.old key.now }
-        ensures rest { self.new ≡ without self.old key.now }
+        ensures old { option_map data_of result ≡ value_at self.old key.now }
+        ensures rest { self.new ≡ without_key self.old key.now }
     {
-        match place_of(&self.entries, key) {
-            Ok(place) => Some(self.entries.remove(place).1),
-            Err(_) => None,
-        }
+        entries::take(&mut self.entries, key)
     }
 
     /// An equal map.
@@ -163,6 +166,32 @@ impl Fields {
         total
     }
 
+    /// How the map stands to the other.
+    #[cycle(order)]
+    pub(crate) fn compare(&self, other: &Fields) -> Ordering
+        ensures { result ≡ members_cmp (members_of self.now) (members_of other.now) }
+    {
+        let mut place = 0;
+        'fields: for (key, val) in &self.entries {
+            let Some((their_key, theirs)) = other.at(place) else {
+                return Ordering::Greater;
+            };
+            match key.as_str().cmp(&their_key.as_str()) {
+                Ordering::Equal => {}
+                unequal => return unequal,
+            }
+            match val.compare(theirs) {
+                Ordering::Equal => place += 1,
+                unequal => return unequal,
+            }
+        }
+        if place < other.len() {
+            Ordering::Less
+        } else {
+            Ordering::Equal
+        }
+    }
+
     /// The JSON of the pairs.
     #[cycle(to_json)]
     pub(crate) fn to_json(&self, alloc: Global) -> Mem<Map<String, Value>>
@@ -174,26 +203,5 @@ impl Fields {
             drop(json.insert(name, val.to_json(alloc)?)?);
         }
         Ok(json)
-    }
-}
-
-// Where the key stands, or where it would go.
-fn place_of(entries: &[(Text, Val)], key: &str) -> Result<usize, usize>
-    requires { T (is_sorted (slice_cmp nat_cmp) entries.now) }
-    ensures found { IfOk result (IsPlace entries.now key.now) }
-    ensures absent { IfErr result (IsGap entries.now key.now) }
-{
-    entries.binary_search_by(|entry| entry.0.as_str().cmp(&key))
-}
-
-// The same, where a key beyond all others is found out first.
-fn place_to_put(entries: &[(Text, Val)], key: &str) -> Result<usize, usize>
-    requires { T (is_sorted (slice_cmp nat_cmp) entries.now) }
-    ensures found { IfOk result (IsPlace entries.now key.now) }
-    ensures absent { IfErr result (IsGap entries.now key.now) }
-{
-    match entries.last() {
-        Some(last) if last.0.as_str() < key => Err(entries.len()),
-        _ => place_of(entries, key),
     }
 }

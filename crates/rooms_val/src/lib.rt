@@ -5,18 +5,20 @@
 //! definition of JSON decides which texts are values, and on nothing else.
 #![tactic(auto)]
 
+pub mod entries;
 pub mod fault;
 pub mod fields;
 mod from_json;
 mod json;
 pub mod memory;
+pub mod order;
 pub mod steps;
 mod survey;
 pub mod text;
 pub mod val;
 pub mod vals;
 
-pub use fault::{OpFault, ValFault};
+pub use fault::{OpFault, TxnFault, ValFault};
 pub use fields::Fields;
 pub use memory::{Mem, OutOfMemory};
 pub use steps::Steps;

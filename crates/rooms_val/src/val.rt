@@ -39,7 +39,7 @@ pub enum Kind {
 
 impl Val {
     ghost use Rattle.rooms_val.specs.Data.{IsSound};
-    ghost use Rattle.rooms_val.specs.Maps.{field};
+    ghost use Rattle.rooms_val.specs.Kinds.{as_text, as_whole, as_map, field};
     ghost use Rattle.rooms_val.specs.Json.{json_of};
     ghost use Rattle.rooms_val.specs.View.{data_of, kind_of};
     ghost use Rattle.rooms_val.specs.Weight.{weight};
@@ -66,7 +66,37 @@ impl Val {
         }
     }
 
-    /// The value under a key. `None` exactly where this is no map or lacks the key. It costs a logarithm of the map's
+    /// The text that it is. `None` exactly if it is of another kind.
+    pub fn as_text(&self) -> Option<&str>
+        ensures { option_map (λ t. t.now) result ≡ as_text (data_of self.now) }
+    {
+        match self {
+            Val::Text(text) => Some(text.as_str()),
+            _ => None,
+        }
+    }
+
+    /// The whole number that it is. `None` exactly if it is of another kind.
+    pub fn as_int(&self) -> Option<i64>
+        ensures { result ≡ as_whole (data_of self.now) }
+    {
+        match self {
+            Val::Int(number) => Some(*number),
+            _ => None,
+        }
+    }
+
+    /// The map that it is. `None` exactly if it is of another kind.
+    pub fn as_map(&self) -> Option<&Fields>
+        ensures { option_map (λ f. f.now) result ≡ as_map (data_of self.now) }
+    {
+        match self {
+            Val::Map(fields) => Some(fields),
+            _ => None,
+        }
+    }
+
+    /// The value under a key. `None` exactly if this is no map or lacks the key. It costs a logarithm of the map's
     /// size.
     pub fn get(&self, key: &str) -> Option<&Val>
         ensures { option_map (λ v. data_of v.now) result ≡ field (data_of self.now) key.now }

@@ -5,6 +5,7 @@ use crate::memory::Mem;
 use crate::val::Val;
 use serde_json::Value;
 use std::alloc::Global;
+use std::cmp::Ordering;
 use std::marker::Model;
 
 /// A list of values. Contracts see the list of what they stand for.
@@ -39,6 +40,7 @@ impl Model for Vals {
 impl Vals {
     ghost use Rattle.rooms_val.specs.Data.{items_of, AreSoundItems};
     ghost use Rattle.rooms_val.specs.Json.{json_items};
+    ghost use Rattle.rooms_val.specs.Order.{items_cmp};
     ghost use Rattle.rooms_val.specs.View.{data_of, items_view};
     ghost use Rattle.rooms_val.specs.Weight.{items_weight};
     ghost use Rattle.serde_json.specs.View.{items_view as json_view};
@@ -122,6 +124,28 @@ impl Vals {
             total = total.saturating_add(item.weight());
         }
         total
+    }
+
+    /// How the list stands to the other.
+    #[cycle(order)]
+    pub(crate) fn compare(&self, other: &Vals) -> Ordering
+        ensures { result ≡ items_cmp (items_of self.now) (items_of other.now) }
+    {
+        let mut place = 0;
+        'items: for item in &self.items {
+            let Some(theirs) = other.at(place) else {
+                return Ordering::Greater;
+            };
+            match item.compare(theirs) {
+                Ordering::Equal => place += 1,
+                unequal => return unequal,
+            }
+        }
+        if place < other.len() {
+            Ordering::Less
+        } else {
+            Ordering::Equal
+        }
     }
 
     /// The JSON of the values.

@@ -6,8 +6,8 @@ use Rattle.serde_json.proofs.Views.{members_view-insert_entry}
 use Rattle.rooms_val.specs.Data.{items_of}
 use Rattle.rooms_val.specs.Json.{json_of, json_items}
 use Rattle.rooms_val.specs.View.{data_of}
-use Rattle.rooms_val.proofs.ToJson.{items_of-json, put_read}
-use Rattle.rooms_val.proofs.Views.{rising_from_sound}
+use Rattle.rooms_val.proofs.ToJsonLemmas.{items_of-json, put_read}
+use Rattle.rooms_val.proofs.DataLemmas.{rising_from_sound}
 use Rattle.rooms_val.proofs.+to_json.Goals as goal
 
 pub vals::Vals::to_json-returns : goal.vals::Vals::to_json-returns

@@ -6,7 +6,7 @@ use Rattle.serde_json.specs.View.{view, members_view}
 use Rattle.serde_json.proofs.Views.{Entry}
 use Rattle.rooms_val.specs.Data.{items_of, members_of}
 use Rattle.rooms_val.specs.Json.{value_in, members_in}
-use Rattle.rooms_val.proofs.FromJson.{items_in-items_view, members_in-members_view, put_last}
+use Rattle.rooms_val.proofs.FromJsonLemmas.{items_in-items_view, members_in-members_view, put_last}
 use Rattle.rooms_val.proofs.from_json.+from_json.Goals as goal
 
 pub fields_of-loop-key-preserved : goal.fields_of-loop-key-preserved

@@ -2,7 +2,7 @@ use Rattle.std.proofs.Common.{◌≡◌, List, ◌++◌, take, map}
 use Rattle.serde_json.specs.View.{view}
 use Rattle.serde_json.proofs.Views.{Entry}
 use Rattle.rooms_val.specs.Json.{value_in}
-use Rattle.rooms_val.proofs.FromJson.{pair_in}
+use Rattle.rooms_val.proofs.FromJsonLemmas.{pair_in}
 use Rattle.rooms_val.proofs.from_json.+from_json.Given as goal
 
 abbrev pub invariant-vals_of-loop-item : goal.invariant-vals_of-loop-item

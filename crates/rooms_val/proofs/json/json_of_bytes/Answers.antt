@@ -1,6 +1,6 @@
 use Rattle.std.proofs.Common.{true≢false, sym, ◌∙◌}
 use Rattle.std.proofs.lemmas.Str.{is_utf8-from_IsUtf8}
-use Rattle.rooms_val.proofs.Reading.{refused}
+use Rattle.rooms_val.proofs.JsonLemmas.{refused}
 use Rattle.rooms_val.proofs.json.json_of_bytes.Goals as goal
 
 pub returns-in-Ok : goal.returns-in-Ok

@@ -1,11 +1,15 @@
-use Rattle.rooms_val.proofs.Views.{rising_from_sound, found, missing}
+use Rattle.std.proofs.Common.{option_map, ap, ◌∙◌}
+use Rattle.rooms_val.specs.Maps.{value_at}
+use Rattle.rooms_val.specs.View.{data_of}
+use Rattle.rooms_val.proofs.MapsLemmas.{option_map-after, value_seen}
+use Rattle.rooms_val.proofs.DataLemmas.{rising_from_sound}
 use Rattle.rooms_val.proofs.fields.Fields.get.Goals as goal
 
-pub place_of-requires : goal.place_of-requires
-place_of-requires c = rw c.deref.ensures.value (rising_from_sound _ c.self.invariant)
+pub get-requires : goal.get-requires
+get-requires c = rw c.deref.ensures.value (rising_from_sound _ c.self.invariant)
 
-pub returns-in-Ok : goal.returns-in-Ok
-returns-in-Ok c = found _ _ _ c.args.key.now _ c.self.view_is c.deref.ensures.value c.in-Ok.ensures.found c.index.result.now c.index.ensures
-
-pub returns-in-Err : goal.returns-in-Err
-returns-in-Err c = missing _ _ _ c.args.key.now _ c.self.view_is c.deref.ensures.value c.in-Err.ensures.absent
+pub returns : goal.returns
+returns c =
+    option_map-after c.get.result (λ v. v.now) data_of
+    ∙ ap (option_map data_of) (c.get.ensures ∙ ap (λ es. value_at es c.args.key.now) c.deref.ensures.value)
+    ∙ value_seen data_of _ _ c.self.view_is c.args.key.now

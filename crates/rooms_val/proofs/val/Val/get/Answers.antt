@@ -1,7 +1,7 @@
 use Rattle.std.proofs.Common.{sym, ap, ◌∙◌}
-use Rattle.rooms_val.specs.Maps.{get}
-use Rattle.rooms_val.proofs.Views.{pairs_of-members_of}
+use Rattle.rooms_val.specs.Maps.{value_at}
+use Rattle.rooms_val.proofs.DataLemmas.{pairs_of-members_of}
 use Rattle.rooms_val.proofs.val.Val.get.Goals as goal
 
 pub returns-in-Map : goal.returns-in-Map
-returns-in-Map c = rw c.in-Map.is (c.get.ensures ∙ ap (λ ps. get ps c.args.key.now) (sym (pairs_of-members_of c.in-Map.fields)))
+returns-in-Map c = rw c.in-Map.is (c.get.ensures ∙ ap (λ ps. value_at ps c.args.key.now) (sym (pairs_of-members_of c.in-Map.fields)))

@@ -7,8 +7,8 @@ use Rattle.serde_json.specs.Read.{read, max_depth}
 use Rattle.serde_json.specs.Written.{has_float, compact_text}
 use Rattle.rooms_val.specs.Json.{value_of}
 use Rattle.rooms_val.specs.View.{data_of}
-use Rattle.rooms_val.proofs.ToJson.{has_float-json_of}
-use Rattle.rooms_val.proofs.Reading.{reads_back}
+use Rattle.rooms_val.proofs.ToJsonLemmas.{has_float-json_of}
+use Rattle.rooms_val.proofs.JsonLemmas.{reads_back}
 use Rattle.rooms_val.proofs.val.Val.print.Goals as goal
 
 pub returns-clause-text : goal.returns-clause-text

@@ -1,4 +1,4 @@
-use Rattle.rooms_val.proofs.Views.{sound_push, items_view-push}
+use Rattle.rooms_val.proofs.DataLemmas.{sound_push, items_view-push}
 use Rattle.rooms_val.proofs.vals.Vals.push.Goals as goal
 
 pub invariant_of-self-2 : goal.invariant_of-self-2

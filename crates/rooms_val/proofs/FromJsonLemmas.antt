@@ -10,8 +10,7 @@ use Rattle.serde_json.specs.View.{view, items_view, members_view}
 use Rattle.serde_json.proofs.Views.{Entry}
 use Rattle.rooms_val.specs.Data.{Data, items_of, members_of}
 use Rattle.rooms_val.specs.Json.{value_in, items_in, members_in}
-use Rattle.rooms_val.specs.Maps as maps
-use Rattle.rooms_val.proofs.Places.{order}
+use Rattle.rooms_val.specs.Maps.{order, with_key}
 
 abbrev pub pair_in : Entry → List ℕ × Data
 pair_in e = (string_bytes e.0, value_in (view e.1))
@@ -30,7 +29,7 @@ below_middle first (x ∷ es) e more h = below_middle first es e more h.1
 
 -- a key that is above those before it goes last
 pub put_last : (done : List Entry) (e : Entry) (more : List Entry) → IsStrictlySortedBy string_cmp (keys_of (done ++ e ∷ more))
-    → maps.put (map pair_in done) (string_bytes e.0) (value_in (view e.1)) ≡ map pair_in (done ++ e ∷ [])
+    → with_key (map pair_in done) (string_bytes e.0) (value_in (view e.1)) ≡ map pair_in (done ++ e ∷ [])
 unfolding IsStrictlySortedBy
 put_last [] e more h = refl
 put_last (first ∷ done) e more h =

@@ -10,7 +10,7 @@ use Rattle.serde_json.specs.Read.{read, max_depth}
 use Rattle.rooms_val.specs.Data.{Data, depth}
 use Rattle.rooms_val.specs.Json.{json_of, json_at, checked, is_within, value_of, deepest}
 use Rattle.rooms_val.specs.declared.fault.ValFault.TheVariants.{BadJson}
-use Rattle.rooms_val.proofs.ToJson.{has_float-json_of, depth-json_of, value_in-json_of}
+use Rattle.rooms_val.proofs.ToJsonLemmas.{has_float-json_of, depth-json_of, value_in-json_of}
 
 pub refused : (bytes : List ℕ) → (IsUtf8 bytes → read bytes ≡ None) → json_at bytes ≡ Err BadJson
 refused bytes none = elim (is_utf8 bytes) as (λ b. is_utf8 bytes ≡ b → (if b then ok_or (read bytes) BadJson else Err BadJson) ≡ Err BadJson) [

@@ -13,7 +13,9 @@ use Rattle.rooms_val.specs.Data.{Data, null, boolean, whole, text, list, map as 
 use Rattle.rooms_val.specs.Json.{json_of, json_items, json_members, is_within, items_are_within, members_are_within, is_in_range, value_in, items_in, members_in, whole_of}
 use Rattle.rooms_val.specs.View.{data_of, items_view, pairs_view}
 use Rattle.rooms_val.specs.declared.val.Val.{Val}
-use Rattle.rooms_val.proofs.Places.{order, first, second, below_at}
+use Rattle.rooms_val.specs.Maps.{order}
+use Rattle.rooms_val.proofs.MapsLemmas.{first, second}
+use Rattle.rooms_val.proofs.PlacesLemmas.{below_at}
 
 pub items_of-json : (vs : List Val) → seen.items_of (map (λ v. json_of (data_of v)) vs) ≡ json_items (items_of (items_view vs))
 items_of-json [] = refl
