@@ -1,1 +1,6 @@
+pub mod Answers
+pub mod Between
+pub mod Digits
 pub mod Keys
+pub mod Order
+pub mod Several

@@ -1,0 +1,9 @@
+pub mod AlphabetLemmas
+pub mod BetweenLemmas
+pub mod CarryLemmas
+pub mod FractionLemmas
+pub mod IntegerLemmas
+pub mod KeyLemmas
+pub mod OrderLemmas
+pub mod RelationLemmas
+pub mod SeriesLemmas
