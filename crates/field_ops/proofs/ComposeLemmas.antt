@@ -1,27 +1,18 @@
 -- What operations in turn make of a record: with an inverse the record before, and of two what their one operation makes.
 use Rattle.std.proofs.Common.{◌≡◌, ℕ, Bool, true, false, ◌||◌, cond, List, [], ◌∷◌, ◌++◌, Option, Some, None, refl, sym, ap, subst, ◌∙◌, length, nat_eq}
 use Rattle.std.specs.Option.{option_and_then}
-use Rattle.rooms_val.specs.Data.{Data, null, boolean, whole, text, list, map, Pairs, Items, item, no_items, items_of, list_of, Members, no_members, member, members_of, pairs_of, IsSound, AreSoundItems, AreSoundMembers}
-use Rattle.rooms_val.proofs.Views.{pairs_of-members_of, sound_put, sound_where}
-use Rattle.field_ops.specs.Entries.{AreRising, value_at, set_at}
+use Rattle.rooms_val.specs.Data.{Data, null, boolean, whole, text, list, map, Pairs, Items, item, no_items, items_of, list_of, Members, members_of, pairs_of, IsSound, AreSoundItems, AreSoundMembers, IsSoundRecord}
+use Rattle.rooms_val.proofs.DataLemmas.{pairs_of-members_of, members_of-pairs_of, sound_at, sound-set_at}
+use Rattle.rooms_val.specs.Maps.{AreRising, value_at, ties}
 use Rattle.field_ops.specs.ValueOps.{ValueOpTree, put, patch, append, delete, ValueOpTrees, no_edits, edit_at, edits_of, patch_of, Patch, edit_has_append, edits_have_append, IsSoundEdit, AreSoundEdits}
 use Rattle.field_ops.specs.RecordOps as change
 use Rattle.field_ops.specs.Patched.{edited, patched, value_after, raw}
 use Rattle.field_ops.specs.Inverses.{undo, inverted, inverse}
 use Rattle.field_ops.specs.Compose.{after, both, edit_after, in_turn}
-use Rattle.field_ops.specs.Laws.{IsSoundRecord, raw_after}
-use Rattle.field_ops.proofs.ForRoomsVal.{ties, same_pairs}
-use Rattle.field_ops.proofs.ByKey.{at-patched, at-inverted, at-both, rising-patched}
-use Rattle.field_ops.proofs.Sent.{edits_of-patch_of}
-
-members_of-pairs_of : (ms : Members) → members_of (pairs_of ms) ≡ ms
-members_of-pairs_of no_members = refl
-members_of-pairs_of (member k d ms) = ap (λ rest. member k d rest) (members_of-pairs_of ms)
-
--- what stands in a sound map is sound
-sound_at : (f : Pairs) (k : List ℕ) → AreSoundMembers (members_of f) → IsSoundRecord (value_at f k)
-sound_at [] k each = tt
-sound_at (p ∷ f) k each = elim (ties k p.0) as (λ b. IsSoundRecord (cond b (Some p.1) (value_at f k))) [ true ↦ each.0 | false ↦ sound_at f k each.1 ]
+use Rattle.field_ops.specs.Laws.{raw_after}
+use Rattle.rooms_val.proofs.MapsLemmas.{same_pairs}
+use Rattle.field_ops.proofs.PatchedLemmas.{at-patched, at-inverted, at-both, rising-patched}
+use Rattle.field_ops.proofs.WireLemmas.{edits_of-patch_of}
 
 sound_in : (ms : Members) (k : List ℕ) → AreSoundMembers ms → IsSoundRecord (value_at (pairs_of ms) k)
 sound_in ms k each = sound_at (pairs_of ms) k (subst AreSoundMembers (sym (members_of-pairs_of ms)) each)
@@ -185,10 +176,6 @@ sound_longer : (ds : List Data) (es : Items) (b : Bool) → AreSoundItems (items
 sound_longer ds es true more each = sound_append (list_of es) ds (subst AreSoundItems (sym (items_of-list_of es)) each) more
 sound_longer ds es false more each = each
 
-sound_set : (f : Pairs) (k : List ℕ) (o : Option Data) → IsSound (map (members_of f)) → IsSoundRecord o → IsSound (map (members_of (set_at f k o)))
-sound_set f k None sound new = sound_where _ f sound
-sound_set f k (Some d) sound new = sound_put f k d sound new
-
 -- sound operations leave what is sound sound
 mutual
   sound_edited : (e : ValueOpTree) → IsSoundEdit e → (o : Option Data) → IsSoundRecord o → IsSoundRecord (edited e o)
@@ -212,7 +199,7 @@ mutual
   sound_patched : (es : ValueOpTrees) → AreSoundEdits es → (f : Pairs) → IsSound (map (members_of f)) → IsSound (map (members_of (patched es f)))
   sound_patched no_edits new f sound = sound
   sound_patched (edit_at k e es) new f sound =
-      sound_set (patched es f) k (edited e (value_at f k)) (sound_patched es new.1 f sound) (sound_edited e new.0 (value_at f k) (sound_at f k sound.1))
+      sound-set_at (patched es f) k (edited e (value_at f k)) (sound_patched es new.1 f sound) (sound_edited e new.0 (value_at f k) (sound_at f k sound.1))
 
 pub sound_raw : (c : change.RecordOpTree) (r : Option Data) → change.IsSoundChange c → IsSoundRecord r → IsSoundRecord (raw c r)
 sound_raw (change.put d) r new old = new

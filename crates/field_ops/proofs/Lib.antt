@@ -1,7 +1,8 @@
-pub mod ForRoomsVal
-pub mod Stages
-pub mod Soundness
-pub mod Depths
-pub mod ByKey
-pub mod Sent
+pub mod WalkLemmas
+pub mod SoundLemmas
+pub mod FallsLemmas
+pub mod PatchedLemmas
+pub mod WireLemmas
 pub mod ComposeLemmas
+pub mod ReadingLemmas
+pub mod ViewLemmas

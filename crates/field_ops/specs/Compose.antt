@@ -1,10 +1,11 @@
 -- The one operation that does two in turn.
 use Rattle.std.specs.Prelude.{Option, Some, None, option_map, unwrap_or}
 use Rattle.rooms_val.specs.Data.{Pairs}
-use Rattle.field_ops.specs.Entries.{value_at, with_key}
+use Rattle.rooms_val.specs.Maps.{value_at, with_key}
 use Rattle.field_ops.specs.ValueOps.{ValueOpTree, put, patch, append, delete, ValueOpTrees, no_edits, edit_at, edits_of, patch_of, Patch}
 use Rattle.field_ops.specs.RecordOps as change
-use Rattle.field_ops.specs.Patched.{on_map, patched}
+use Rattle.rooms_val.specs.Kinds.{on_map}
+use Rattle.field_ops.specs.Patched.{patched}
 
 -- what a second patch, which changes maps by f and patches by g, makes of a first operation
 abbrev pub patched_edit : (Pairs → Pairs) → (Patch → Patch) → ValueOpTree → ValueOpTree

@@ -2,7 +2,7 @@
 use Rattle.std.specs.Prelude.{ℕ, [], length, nat_eq, if◌then◌else◌, Option, Some, None, option_map}
 use Rattle.std.specs.Option.{option_and_then}
 use Rattle.rooms_val.specs.Data.{Data, null, boolean, whole, text, list, map, Pairs, list_of, pairs_of}
-use Rattle.field_ops.specs.Entries.{value_at, set_at}
+use Rattle.rooms_val.specs.Maps.{value_at, set_at}
 use Rattle.field_ops.specs.ValueOps.{ValueOpTree, put, patch, append, delete, ValueOpTrees, no_edits, edit_at, edits_of, Patch}
 use Rattle.field_ops.specs.RecordOps as change
 

@@ -1,4 +1,3 @@
-pub mod Entries
 pub mod ValueOps
 pub mod Wire
 pub mod RecordOps
@@ -10,3 +9,4 @@ pub mod View
 pub mod ViewRecordOps
 pub mod Falls
 pub mod Laws
+pub mod Readings

@@ -1,18 +1,10 @@
 -- What operations make of values, maps and records.
 use Rattle.std.specs.Prelude.{ℕ, List, ◌++◌, length, nat_eq, if◌then◌else◌, Option, Some, None, option_map}
-use Rattle.rooms_val.specs.Data.{Data, null, boolean, whole, text, list, map, Pairs, items_of, list_of, members_of, pairs_of}
-use Rattle.field_ops.specs.Entries.{value_at, set_at}
+use Rattle.rooms_val.specs.Data.{Data, null, boolean, whole, text, list, map, Pairs, items_of, list_of}
+use Rattle.rooms_val.specs.Kinds.{on_map}
+use Rattle.rooms_val.specs.Maps.{value_at, set_at}
 use Rattle.field_ops.specs.ValueOps.{ValueOpTree, put, patch, append, delete, ValueOpTrees, no_edits, edit_at, edits_of}
 use Rattle.field_ops.specs.RecordOps as change
-
--- a map changed; what is no map stays
-abbrev pub on_map : (Pairs → Pairs) → Data → Data
-on_map f null = null
-on_map f (boolean b) = boolean b
-on_map f (whole z) = whole z
-on_map f (text s) = text s
-on_map f (list ds) = list ds
-on_map f (map ms) = map (members_of (f (pairs_of ms)))
 
 -- a list of length n followed by another; what is no such list stays
 abbrev pub appended : List Data → ℕ → Data → Data

@@ -1,7 +1,7 @@
 -- What an operation on a record is.
-use Rattle.std.specs.Prelude.{ℕ, List, [], ◌∷◌, Bool, false, codes}
+use Rattle.std.specs.Prelude.{ℕ, List, Bool, false, codes}
 use Rattle.rooms_val.specs.Data.{Data, IsSound}
-use Rattle.field_ops.specs.Entries.{AreRising}
+use Rattle.rooms_val.specs.Maps.{AreRising, EachValue}
 use Rattle.field_ops.specs.ValueOps.{Patch, edits_of, IsSoundPatch, edits_have_append}
 
 pub data RecordOpTree : Type 0 where
@@ -26,8 +26,7 @@ IsSoundChange (patch p) = IsSoundPatch p
 IsSoundChange remove = Unit {0}
 
 abbrev pub AreSoundChanges : RecordOps → Type 0
-AreSoundChanges [] = Unit {0}
-AreSoundChanges (c ∷ cs) = IsSoundChange c.1 × AreSoundChanges cs
+AreSoundChanges cs = EachValue IsSoundChange cs
 
 -- a diff whose operations are sound and whose ids rise
 abbrev pub IsSoundDiff : RecordOps → Type 0

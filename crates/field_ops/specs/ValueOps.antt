@@ -1,7 +1,7 @@
 -- What an operation on a value is, as a tree that shares nothing with how the code keeps it.
 use Rattle.std.specs.Prelude.{ℕ, suc, max, ◌<◌, ◌^◌, List, [], ◌∷◌, Bool, true, false, ◌||◌, codes}
 use Rattle.rooms_val.specs.Data.{Data, IsSound, AreSoundItems, items_of}
-use Rattle.field_ops.specs.Entries.{AreRising}
+use Rattle.rooms_val.specs.Maps.{AreRising}
 
 mutual
   pub data ValueOpTree : Type 0 where

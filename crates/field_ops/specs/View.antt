@@ -1,7 +1,7 @@
 -- The operations that the code's values stand for, one level at a time: a patch inside is already seen as its pairs.
 use Rattle.std.specs.Prelude.{ℕ, List, Option, option_map}
-use Rattle.std.specs.Prelude as std
 use Rattle.rooms_val.specs.Data.{Data}
+use Rattle.rooms_val.specs.Maps.{seen}
 use Rattle.rooms_val.specs.View.{data_of}
 use Rattle.rooms_val.specs.declared.val.Val.{Val}
 use Rattle.field_ops.specs.ValueOps.{ValueOpTree, put, patch, append, delete, edits_of, Patch}
@@ -15,7 +15,7 @@ edit_of (v.Append ds n) = append ds n
 edit_of v.Delete = delete
 
 abbrev pub patch_view : List (List ℕ × ValueOp) → Patch
-patch_view es = std.map (λ e. (e.0, edit_of e.1)) es
+patch_view es = seen edit_of es
 
 -- the value, where there is one
 abbrev pub maybe_data : Option Val → Option Data

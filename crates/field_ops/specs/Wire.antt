@@ -1,10 +1,11 @@
 -- The value by which an operation is sent and kept: a list that begins with its name.
-use Rattle.std.specs.Prelude.{◌≡◌, ℕ, ℤ, pos, negsuc, List, [], ◌∷◌, refl, codes, length, nat_eq, if◌then◌else◌}
-use Rattle.std.specs.Prelude as std
+use Rattle.std.specs.Prelude.{◌≡◌, ℕ, ℤ, pos, negsuc, List, refl, codes, length, nat_eq, if◌then◌else◌}
 use Rattle.std.specs.Coded.{Coded, code_by, coded×, coded_list, coded_ℕ}
 use mathlib.Core.Path.{ap}
 use Rattle.rooms_val.specs.Data.{Data, null, boolean, whole, text, list, map, Items, no_items, item, Members, no_members, member, items_of, list_of, Pairs}
 use Rattle.rooms_val.specs.Code.{coded_data}
+use Rattle.rooms_val.specs.Maps.{seen}
+use Rattle.rooms_val.proofs.DataLemmas.{list_of-items_of}
 use Rattle.field_ops.specs.ValueOps.{ValueOpTree, put, patch, append, delete, ValueOpTrees, no_edits, edit_at, Patch}
 
 -- the list of a name and what follows it
@@ -26,7 +27,7 @@ abbrev mutual
 
 -- the pairs of that map
 abbrev pub patch_pairs : Patch → Pairs
-patch_pairs p = std.map (λ e. (e.0, edit_data e.1)) p
+patch_pairs p = seen edit_data p
 
 abbrev number_in : ℤ → ℕ
 number_in (pos n) = n
@@ -43,10 +44,6 @@ abbrev mutual
   pub edits_in : Members → ValueOpTrees
   edits_in no_members = no_edits
   edits_in (member k d ms) = edit_at k (edit_in d) (edits_in ms)
-
-pub list_of-items_of : (ds : List Data) → list_of (items_of ds) ≡ ds
-list_of-items_of [] = refl
-list_of-items_of (d ∷ ds) = ap (λ rest. d ∷ rest) (list_of-items_of ds)
 
 -- a put, as it is read
 pub put_in : (d : Data) → edit_in (edit_data (put d)) ≡ put d

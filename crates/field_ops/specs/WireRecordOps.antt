@@ -1,9 +1,9 @@
 -- The value by which an operation on a record, or a diff, is sent and kept.
-use Rattle.std.specs.Prelude.{◌≡◌, ℕ, List, [], ◌∷◌, refl, codes, length, nat_eq, if◌then◌else◌}
-use Rattle.std.specs.Prelude as std
+use Rattle.std.specs.Prelude.{◌≡◌, [], ◌∷◌, refl, codes, length, nat_eq, if◌then◌else◌}
 use Rattle.std.specs.Coded.{Coded, code_by, coded×, coded_list, coded_ℕ}
 use mathlib.Core.Path.{ap, ◌∙◌}
 use Rattle.rooms_val.specs.Data.{Data, null, boolean, whole, text, list, map, no_items, item, Pairs, members_of}
+use Rattle.rooms_val.specs.Maps.{seen}
 use Rattle.rooms_val.specs.Code.{coded_data}
 use Rattle.field_ops.specs.ValueOps.{Patch, patch_of, edits_of}
 use Rattle.field_ops.specs.RecordOps.{RecordOpTree, put, patch, remove, RecordOps}
@@ -17,7 +17,7 @@ change_data remove = named (codes "remove") no_items
 
 -- the map of a diff
 abbrev pub diff_pairs : RecordOps → Pairs
-diff_pairs cs = std.map (λ c. (c.0, change_data c.1)) cs
+diff_pairs cs = seen change_data cs
 
 abbrev pub diff_data : RecordOps → Data
 diff_data cs = map (members_of (diff_pairs cs))

@@ -2,11 +2,12 @@
 ghost use Rattle.std.specs.Prelude.{◌≡◌, ◌++◌, IfOk, OnOk};
 ghost use Rattle.std.specs.Option.{option_copied};
 ghost use Rattle.rooms_val.specs.View.{data_of};
-ghost use Rattle.field_ops.specs.Entries.{added};
+ghost use Rattle.rooms_val.specs.Maps.{added};
 ghost use Rattle.field_ops.specs.ValueOps.{edits_of};
 ghost use Rattle.field_ops.specs.View.{maybe_data, maybe_edit};
 ghost use Rattle.field_ops.specs.ViewRecordOps.{change_of};
-ghost use Rattle.field_ops.specs.Patched.{on_map, appended, patched, value_after, raw};
+ghost use Rattle.rooms_val.specs.Kinds.{on_map};
+ghost use Rattle.field_ops.specs.Patched.{appended, patched, value_after, raw};
 
 use crate::object_diff::ObjectDiff;
 use crate::record_op::RecordOp;

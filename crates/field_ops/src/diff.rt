@@ -1,9 +1,8 @@
 //! The ids of a diff with their operations.
 ghost use Rattle.std.specs.Prelude.{◌≡◌, [], length, IfOk, OnOk, OnErr, option_map, slice_get, IsTrue, ◌↔◌};
 
-use crate::entries;
 use crate::record_op::RecordOp;
-use rooms_val::{Fields, Mem, OpFault, Text, Val};
+use rooms_val::{Fields, Mem, OpFault, Text, Val, entries};
 use std::alloc::Global;
 use std::marker::Model;
 
@@ -32,7 +31,7 @@ impl Diff {
     ghost use Rattle.field_ops.specs.RecordOps.{RecordOps, IsSoundDiff};
     ghost use Rattle.rooms_val.specs.View.{data_of};
     ghost use Rattle.field_ops.specs.WireRecordOps.{diff_data, diff_pairs};
-    ghost use Rattle.field_ops.specs.Entries.{value_at, with_key};
+    ghost use Rattle.rooms_val.specs.Maps.{value_at, with_key};
     ghost use Rattle.field_ops.specs.ViewRecordOps.{change_of, changes_view};
 
     /// The diff that names no id.

@@ -6,6 +6,16 @@ pub fn patches_by_key()
     ensures { laws.PatchesByKey }
 {}
 
+/// The patch that brings a map back has at each key what undoes the key's operation.
+pub fn inverts_by_key()
+    ensures { laws.InvertsByKey }
+{}
+
+/// The one patch that does two in turn has at each key the one operation that does both of the key.
+pub fn composes_by_key()
+    ensures { laws.ComposesByKey }
+{}
+
 /// An operation and then its inverse leave a record as it was.
 pub fn inverse_brings_back()
     ensures { laws.InverseBringsBack }

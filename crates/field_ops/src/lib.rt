@@ -8,7 +8,6 @@
 pub mod apply;
 pub mod compose;
 pub mod diff;
-mod entries;
 pub mod inverses;
 pub mod laws;
 pub mod object_diff;

@@ -1,9 +1,8 @@
 //! The keys of a patch with their operations.
 ghost use Rattle.std.specs.Prelude.{◌≡◌, [], length, IfOk, OnOk, OnErr, option_map, slice_get, IsTrue, ◌↔◌};
 
-use crate::entries;
 use crate::value_op::ValueOp;
-use rooms_val::{Fields, Mem, OpFault, Text};
+use rooms_val::{Fields, Mem, OpFault, Text, entries};
 use std::alloc::Global;
 use std::marker::Model;
 
@@ -39,7 +38,7 @@ impl Model for ObjectDiff {
 impl ObjectDiff {
     ghost use Rattle.field_ops.specs.ValueOps.{Patch, edits_of, edits_have_append, IsSoundPatch};
     ghost use Rattle.field_ops.specs.Wire.{patch_pairs};
-    ghost use Rattle.field_ops.specs.Entries.{added, value_at, with_key};
+    ghost use Rattle.rooms_val.specs.Maps.{added, value_at, with_key};
     ghost use Rattle.field_ops.specs.View.{edit_of, maybe_edit, patch_view};
 
     /// The patch that names no key.

@@ -1,7 +1,7 @@
 //! Two rising lists gone through together.
 ghost use Rattle.std.specs.Prelude.{◌≡◌, ◌+◌, ◌<◌, [], length, IfSome, IfNone};
 ghost use Rattle.std.specs.Option.{option_copied};
-ghost use Rattle.field_ops.specs.Entries.{AreRising, IsTaken};
+ghost use Rattle.rooms_val.specs.Maps.{AreRising, IsTaken};
 
 use rooms_val::Text;
 use std::cmp::Ordering;

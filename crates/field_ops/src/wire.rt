@@ -4,9 +4,11 @@
 //! operations, which are `["put",value]`, `["patch",patch]`, `["append",list,offset]` with an offset from 0 to 2^32 - 1,
 //! and `["delete"]`. A diff is a map from ids to record operations.
 ghost use Rattle.std.specs.Prelude.{◌≡◌, IfOk};
+ghost use Rattle.std.specs.Option.{ok_or};
+ghost use Rattle.rooms_val.specs.Answers.{Gives};
 ghost use Rattle.rooms_val.specs.View.{data_of};
+ghost use Rattle.field_ops.specs.Readings.{op_of_data, diff_of_data};
 ghost use Rattle.field_ops.specs.RecordOps as change;
-ghost use Rattle.field_ops.specs.RecordOps.{RecordOpTree, RecordOps, IsSoundChange, IsSoundDiff};
 ghost use Rattle.field_ops.specs.ViewRecordOps.{change_of};
 ghost use Rattle.field_ops.specs.WireRecordOps.{change_data, diff_data};
 
@@ -31,18 +33,32 @@ pub fn diff_val(alloc: Global, diff: &Diff) -> Mem<Val>
 
 /// The operation of a value. `WrongKind` exactly where the value is that of no operation, or `OutOfMemory`.
 pub fn read_op(alloc: Global, val: &Val) -> Result<RecordOp, OpFault>
-    ensures found { IfOk result (λ op. data_of val.now ≡ change_data (change_of op)) }
-    ensures only { result ≡ Err OpFault.WrongKind → (c : RecordOpTree) → IsSoundChange c → ¬ (data_of val.now ≡ change_data c) }
+    ensures { Gives OpFault.OutOfMemory change_of result (ok_or (op_of_data (data_of val.now)) OpFault.WrongKind) }
 {
-    RecordOp::read(alloc, val)
+    // That the value is sound is told by its kind, and the same of an operation by its name.
+    let _ = val.kind();
+    match RecordOp::read(alloc, val) {
+        Ok(op) => {
+            let _ = op.name();
+            Ok(op)
+        }
+        Err(fault) => Err(fault),
+    }
 }
 
 /// The diff of a value. `WrongKind` exactly where the value is that of no diff, or `OutOfMemory`.
 pub fn read_diff(alloc: Global, val: &Val) -> Result<Diff, OpFault>
-    ensures found { IfOk result (λ d. data_of val.now ≡ diff_data d) }
-    ensures only { result ≡ Err OpFault.WrongKind → (cs : RecordOps) → IsSoundDiff cs → ¬ (data_of val.now ≡ diff_data cs) }
+    ensures { Gives OpFault.OutOfMemory (λ d. d) result (ok_or (diff_of_data (data_of val.now)) OpFault.WrongKind) }
 {
-    Diff::read(alloc, val)
+    // That the value is sound is told by its kind, and the same of a diff by its length.
+    let _ = val.kind();
+    match Diff::read(alloc, val) {
+        Ok(diff) => {
+            let _ = diff.len();
+            Ok(diff)
+        }
+        Err(fault) => Err(fault),
+    }
 }
 
 /// Whether an append stands anywhere in an operation.

@@ -2,7 +2,7 @@ use Rattle.std.proofs.Common.{◌≡◌, true, ◌||◌, Bool, List, ℕ, drop, 
 use Rattle.field_ops.specs.ValueOps.{edits_of, edits_have_append}
 use Rattle.field_ops.specs.View.{patch_view}
 use Rattle.field_ops.specs.declared.value_op.ValueOp.{ValueOp}
-use Rattle.field_ops.proofs.Stages.{one_off}
+use Rattle.rooms_val.proofs.ListLemmas.{one_off}
 use Rattle.field_ops.proofs.+has_append.Goals as goal
 
 abbrev have_append : List (List ℕ × ValueOp) → Bool

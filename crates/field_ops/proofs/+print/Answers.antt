@@ -1,11 +1,11 @@
 use Rattle.std.proofs.Common.{◌++◌, ◌∷◌, [], ◌+◌, Some, drop, codes, refl, sym, ap, subst, ◌∙◌, arith}
 use Rattle.rooms_val.specs.Data.{list, map, item, no_items, items_of, members_of}
-use Rattle.field_ops.specs.Entries.{AreRising, with_key}
+use Rattle.rooms_val.specs.Maps.{AreRising, with_key}
 use Rattle.field_ops.specs.View.{edit_of, patch_view}
 use Rattle.field_ops.specs.Wire.{edit_data, named, patch_pairs}
-use Rattle.field_ops.proofs.Sent.{members_of-patch_pairs, sends, rising_sent}
-use Rattle.field_ops.proofs.Soundness.{rising_ops}
-use Rattle.field_ops.proofs.Stages.{Going, going_first, going_next, going_done}
+use Rattle.field_ops.proofs.WireLemmas.{members_of-patch_pairs, sends, rising_sent}
+use Rattle.field_ops.proofs.SoundLemmas.{rising_ops}
+use Rattle.field_ops.proofs.WalkLemmas.{Going, going_first, going_next, going_done}
 use Rattle.field_ops.proofs.+print.Invariants.{sent_at}
 use Rattle.field_ops.proofs.+print.Goals as goal
 

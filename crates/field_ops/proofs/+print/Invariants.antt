@@ -3,7 +3,7 @@ use Rattle.rooms_val.specs.Data.{Data}
 use Rattle.field_ops.specs.View.{edit_of, patch_view}
 use Rattle.field_ops.specs.Wire.{edit_data, patch_pairs}
 use Rattle.field_ops.specs.declared.value_op.ValueOp.{ValueOp}
-use Rattle.field_ops.proofs.Stages.{Going}
+use Rattle.field_ops.proofs.WalkLemmas.{Going}
 use Rattle.field_ops.proofs.+print.Given as goal
 
 -- what a key gives: the value of its operation

@@ -1,13 +1,14 @@
 use Rattle.std.proofs.Common.{◌≤◌, ◌+◌, [], Some, drop, refl, sym, ap, subst, ◌∙◌, arith}
 use Rattle.rooms_val.specs.Data.{depth, map, members_of, members_depth, IsSound}
 use Rattle.rooms_val.specs.View.{data_of, pairs_view}
-use Rattle.field_ops.specs.Entries.{with_key}
+use Rattle.rooms_val.specs.Maps.{with_key}
 use Rattle.field_ops.specs.View.{edit_of}
 use Rattle.field_ops.specs.Wire.{edit_data, patch_pairs}
-use Rattle.field_ops.proofs.ForRoomsVal.{seen-with_key}
-use Rattle.field_ops.proofs.Sent.{read_at, reads, no_put, no_patch, no_append, no_delete, no_name, no_entry, no_view, one_patch, patch_in_one, depth_entry}
-use Rattle.field_ops.proofs.Soundness.{rising_fields, rising_fields_slice}
-use Rattle.field_ops.proofs.Stages.{Going, going_first, going_next, going_done}
+use Rattle.rooms_val.proofs.MapsLemmas.{seen-with_key}
+use Rattle.field_ops.proofs.WireLemmas.{read_at, reads, no_put, no_patch, no_append, no_delete, no_name, no_entry, no_view, one_patch, patch_in_one, depth_entry}
+use Rattle.rooms_val.proofs.DataLemmas.{rising_pairs}
+use Rattle.field_ops.proofs.SoundLemmas.{rising_fields_slice}
+use Rattle.field_ops.proofs.WalkLemmas.{Going, going_first, going_next, going_done}
 use Rattle.field_ops.proofs.+read.Goals as goal
 
 pub object_diff::ObjectDiff::read-loop-key-init : goal.object_diff::ObjectDiff::read-loop-key-init
@@ -39,7 +40,7 @@ object_diff::ObjectDiff::read-loop-key-preserved t c =
 pub object_diff::ObjectDiff::read-returns-clause-found : goal.object_diff::ObjectDiff::read-returns-clause-found
 object_diff::ObjectDiff::read-returns-clause-found t c =
     let s = c.as_slice-key-items.result.now in
-    sym (going_done read_at (pairs_view s) s c.loop-key.key-index (patch_pairs c.loop-key.diff) (rising_fields (pairs_view s) (subst (λ f. IsSound (map (members_of f))) (sym c.as_slice-key-items.ensures.pairs) c.as_slice-key-items.ensures.sound)) (omega arith) c.loop-key.invariant
+    sym (going_done read_at (pairs_view s) s c.loop-key.key-index (patch_pairs c.loop-key.diff) (rising_pairs (pairs_view s) (subst (λ f. IsSound (map (members_of f))) (sym c.as_slice-key-items.ensures.pairs) c.as_slice-key-items.ensures.sound)) (omega arith) c.loop-key.invariant
     ∙ c.as_slice-key-items.ensures.pairs)
 
 pub value_op::ValueOp::read-returns-in_err-val-clause-only : goal.value_op::ValueOp::read-returns-in_err-val-clause-only

@@ -2,8 +2,8 @@ use Rattle.std.proofs.Common.{◌+◌, ◌*◌, [], drop}
 use Rattle.rooms_val.specs.Data.{depth, items_of, items_depth, members_of, members_depth}
 use Rattle.rooms_val.specs.View.{data_of, items_view, pairs_view}
 use Rattle.field_ops.specs.Wire.{patch_pairs}
-use Rattle.field_ops.proofs.Sent.{read_at}
-use Rattle.field_ops.proofs.Stages.{Going}
+use Rattle.field_ops.proofs.WireLemmas.{read_at}
+use Rattle.field_ops.proofs.WalkLemmas.{Going}
 use Rattle.field_ops.proofs.+read.Given as goal
 
 abbrev pub decreases-value_op::ValueOp::read : goal.decreases-value_op::ValueOp::read

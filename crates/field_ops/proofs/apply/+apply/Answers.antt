@@ -2,17 +2,17 @@ use Rattle.std.proofs.Common.{◌≡◌, ℕ, List, arith, refl, sym, ap, subst,
 use Rattle.rooms_val.specs.Data.{Pairs, map, members_of}
 use Rattle.rooms_val.specs.View.{data_of, pairs_view}
 use Rattle.rooms_val.specs.declared.val.Val.{Val}
-use Rattle.rooms_val.proofs.Views.{pairs_of-members_of}
-use Rattle.field_ops.specs.Entries.{value_at}
+use Rattle.rooms_val.proofs.DataLemmas.{pairs_of-members_of, rising_pairs}
+use Rattle.rooms_val.specs.Maps.{value_at}
 use Rattle.field_ops.specs.ValueOps.{Patch, edits_of}
 use Rattle.field_ops.specs.Patched.{patched, value_after}
 use Rattle.field_ops.specs.View.{edit_of, patch_view, maybe_data}
 use Rattle.field_ops.specs.declared.value_op.ValueOp.{ValueOp}
-use Rattle.field_ops.proofs.Depths.{depth_found, depth_rest}
-use Rattle.field_ops.proofs.ForRoomsVal.{at-seen}
-use Rattle.field_ops.proofs.ByKey.{at-patched, rising-patched}
-use Rattle.field_ops.proofs.Soundness.{rising_fields, rising_fields_slice, rising_slice}
-use Rattle.field_ops.proofs.Stages.{Going, going_from, going_on, gone}
+use Rattle.field_ops.proofs.FallsLemmas.{depth_found, depth_rest}
+use Rattle.rooms_val.proofs.MapsLemmas.{at-seen}
+use Rattle.field_ops.proofs.PatchedLemmas.{at-patched, rising-patched}
+use Rattle.field_ops.proofs.SoundLemmas.{rising_fields_slice, rising_slice}
+use Rattle.field_ops.proofs.WalkLemmas.{Going, going_from, going_on, gone}
 use Rattle.field_ops.proofs.apply.+apply.Invariants.{after_at}
 use Rattle.field_ops.proofs.apply.+apply.Goals as goal
 
@@ -45,7 +45,7 @@ apply_object-keys-preserved t c =
 
 pub apply_object-returns : goal.apply_object-returns
 apply_object-returns t c =
-    gone after_at (patched (edits_of c.args.diff.now) c.args.map.now) _ _ _ (rising-patched (edits_of c.args.diff.now) c.args.map.now (rising_fields _ c.as_slice-fields.ensures.sound)) c.in_default.ensures.none.0 c.in_default.ensures.none.1 c.keys.invariant.going
+    gone after_at (patched (edits_of c.args.diff.now) c.args.map.now) _ _ _ (rising-patched (edits_of c.args.diff.now) c.args.map.now (rising_pairs _ c.as_slice-fields.ensures.sound)) c.in_default.ensures.none.0 c.in_default.ensures.none.1 c.keys.invariant.going
 
 pub patched_val-returns-in_ok-apply_object-in-Map : goal.patched_val-returns-in_ok-apply_object-in-Map
 patched_val-returns-in_ok-apply_object-in-Map t c =

@@ -6,8 +6,8 @@ use Rattle.field_ops.specs.ValueOps.{edits_of, edits_depth}
 use Rattle.field_ops.specs.Patched.{patched, value_after}
 use Rattle.field_ops.specs.View.{maybe_data, maybe_edit}
 use Rattle.field_ops.specs.declared.value_op.ValueOp.{ValueOp}
-use Rattle.field_ops.proofs.Depths.{maybe_depth, ops_depth}
-use Rattle.field_ops.proofs.Stages.{Going}
+use Rattle.field_ops.proofs.FallsLemmas.{maybe_depth, ops_depth}
+use Rattle.field_ops.proofs.WalkLemmas.{Going}
 use Rattle.field_ops.proofs.apply.+apply.Given as goal
 
 abbrev pub decreases-apply_object : goal.decreases-apply_object

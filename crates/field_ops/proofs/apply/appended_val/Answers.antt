@@ -2,7 +2,7 @@ use Rattle.std.proofs.Common.{◌≡◌, ℕ, List, ◌++◌, length, sym, ap, �
 use Rattle.std.proofs.lemmas.Bool.{ne_eqb}
 use Rattle.rooms_val.specs.Data.{Data, list, items_of}
 use Rattle.field_ops.specs.Patched.{appended}
-use Rattle.field_ops.specs.Wire.{list_of-items_of}
+use Rattle.rooms_val.proofs.DataLemmas.{list_of-items_of}
 use Rattle.field_ops.proofs.apply.appended_val.Goals as goal
 
 acts : (ds es : List Data) (n : ℕ) → length es ≡ n → list (items_of (es ++ ds)) ≡ appended ds n (list (items_of es))

@@ -1,15 +1,15 @@
 use Rattle.std.proofs.Common.{◌≡◌, ℕ, List, arith, refl, sym, ap, subst, ◌∙◌}
 use Rattle.field_ops.specs.ValueOps.{Patch, patch, edits_of}
-use Rattle.field_ops.specs.Entries.{value_at}
+use Rattle.rooms_val.specs.Maps.{value_at}
 use Rattle.field_ops.specs.Compose.{both, edit_after}
 use Rattle.field_ops.specs.View.{edit_of, patch_view, maybe_edit}
 use Rattle.field_ops.specs.WireRecordOps.{patch_of-edits_of}
 use Rattle.field_ops.specs.declared.value_op.ValueOp.{ValueOp}
-use Rattle.field_ops.proofs.Depths.{depth_found, depth_rest}
-use Rattle.field_ops.proofs.ForRoomsVal.{at-seen}
-use Rattle.field_ops.proofs.ByKey.{at-both, rising-both}
-use Rattle.field_ops.proofs.Soundness.{rising_patch, rising_slice}
-use Rattle.field_ops.proofs.Stages.{Going, going_from, going_on, gone}
+use Rattle.field_ops.proofs.FallsLemmas.{depth_found, depth_rest}
+use Rattle.rooms_val.proofs.MapsLemmas.{at-seen}
+use Rattle.field_ops.proofs.PatchedLemmas.{at-both, rising-both}
+use Rattle.field_ops.proofs.SoundLemmas.{rising_patch, rising_slice}
+use Rattle.field_ops.proofs.WalkLemmas.{Going, going_from, going_on, gone}
 use Rattle.field_ops.proofs.compose.+then.Invariants.{joined_at}
 use Rattle.field_ops.proofs.compose.+then.Goals as goal
 

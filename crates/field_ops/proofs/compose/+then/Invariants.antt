@@ -4,8 +4,8 @@ use Rattle.field_ops.specs.ValueOps.{ValueOpTree, edits_of, edit_depth, edits_de
 use Rattle.field_ops.specs.Compose as joined
 use Rattle.field_ops.specs.View.{edit_of, maybe_edit}
 use Rattle.field_ops.specs.declared.value_op.ValueOp.{ValueOp}
-use Rattle.field_ops.proofs.Depths.{maybe_depth, ops_depth}
-use Rattle.field_ops.proofs.Stages.{Going}
+use Rattle.field_ops.proofs.FallsLemmas.{maybe_depth, ops_depth}
+use Rattle.field_ops.proofs.WalkLemmas.{Going}
 use Rattle.field_ops.proofs.compose.+then.Given as goal
 
 abbrev pub decreases-both : goal.decreases-both

@@ -2,17 +2,17 @@ use Rattle.std.proofs.Common.{◌≡◌, ℕ, ◌+◌, ◌≤◌, List, [], Opti
 use Rattle.std.specs.Option.{option_and_then, option_copied}
 use Rattle.rooms_val.specs.Data.{Pairs}
 use Rattle.rooms_val.specs.View.{data_of}
-use Rattle.rooms_val.proofs.Views.{pairs_of-members_of}
+use Rattle.rooms_val.proofs.DataLemmas.{pairs_of-members_of}
 use Rattle.field_ops.specs.ValueOps.{ValueOpTree, Patch, patch, edits_of, edit_depth, edits_depth}
-use Rattle.field_ops.specs.Entries.{value_at}
+use Rattle.rooms_val.specs.Maps.{value_at}
 use Rattle.field_ops.specs.Inverses.{undo, inverted}
 use Rattle.field_ops.specs.View.{edit_of, patch_view, maybe_data, maybe_edit}
 use Rattle.field_ops.specs.declared.value_op.ValueOp.{ValueOp}
-use Rattle.field_ops.proofs.Depths.{depth_place}
-use Rattle.field_ops.proofs.ForRoomsVal.{at-seen, option_map-after}
-use Rattle.field_ops.proofs.ByKey.{at-inverted, rising-inverted}
-use Rattle.field_ops.proofs.Soundness.{rising_slice}
-use Rattle.field_ops.proofs.Stages.{Going, going_first, going_next, going_done}
+use Rattle.field_ops.proofs.FallsLemmas.{depth_place}
+use Rattle.rooms_val.proofs.MapsLemmas.{at-seen, option_map-after}
+use Rattle.field_ops.proofs.PatchedLemmas.{at-inverted, rising-inverted}
+use Rattle.field_ops.proofs.SoundLemmas.{rising_slice}
+use Rattle.field_ops.proofs.WalkLemmas.{Going, going_first, going_next, going_done}
 use Rattle.field_ops.proofs.inverses.+inverse.Invariants.{undone_at}
 use Rattle.field_ops.proofs.inverses.+inverse.Goals as goal
 

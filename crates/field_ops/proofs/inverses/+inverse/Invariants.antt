@@ -2,11 +2,11 @@ use Rattle.std.proofs.Common.{ℕ, ◌+◌, ◌*◌, List, [], Option, drop}
 use Rattle.std.specs.Option.{option_and_then}
 use Rattle.rooms_val.specs.Data.{Pairs}
 use Rattle.field_ops.specs.ValueOps.{ValueOpTree, edits_of, edit_depth, edits_depth}
-use Rattle.field_ops.specs.Entries.{value_at}
+use Rattle.rooms_val.specs.Maps.{value_at}
 use Rattle.field_ops.specs.Inverses as inverted
 use Rattle.field_ops.specs.View.{edit_of}
 use Rattle.field_ops.specs.declared.value_op.ValueOp.{ValueOp}
-use Rattle.field_ops.proofs.Stages.{Going}
+use Rattle.field_ops.proofs.WalkLemmas.{Going}
 use Rattle.field_ops.proofs.inverses.+inverse.Given as goal
 
 abbrev pub decreases-inverse_object : goal.decreases-inverse_object

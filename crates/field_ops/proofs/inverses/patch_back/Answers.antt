@@ -1,5 +1,5 @@
 use Rattle.std.proofs.Common.{sym, ap, ◌∙◌}
-use Rattle.rooms_val.proofs.Views.{pairs_of-members_of}
+use Rattle.rooms_val.proofs.DataLemmas.{pairs_of-members_of}
 use Rattle.field_ops.specs.ValueOps.{edits_of}
 use Rattle.field_ops.specs.Inverses.{inverted}
 use Rattle.field_ops.proofs.inverses.patch_back.Goals as goal

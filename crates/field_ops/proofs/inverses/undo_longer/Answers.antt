@@ -3,7 +3,7 @@ use Rattle.std.proofs.lemmas.Bool.{ne_eqb}
 use Rattle.rooms_val.specs.Data.{Data, list, items_of}
 use Rattle.field_ops.specs.ValueOps.{put}
 use Rattle.field_ops.specs.Inverses.{of_list}
-use Rattle.field_ops.specs.Wire.{list_of-items_of}
+use Rattle.rooms_val.proofs.DataLemmas.{list_of-items_of}
 use Rattle.field_ops.proofs.inverses.undo_longer.Goals as goal
 
 acts : (vs : List Data) (n : ℕ) → length vs ≡ n → Some (put (list (items_of vs))) ≡ of_list n (list (items_of vs))

@@ -1,4 +1,4 @@
-use Rattle.field_ops.proofs.ByKey.{at-patched}
+use Rattle.field_ops.proofs.PatchedLemmas.{at-patched}
 use Rattle.field_ops.proofs.laws.patches_by_key.Goals as goal
 
 pub returns : goal.returns

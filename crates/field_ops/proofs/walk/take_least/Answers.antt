@@ -1,6 +1,6 @@
 use Rattle.std.proofs.Common.{◌≡◌, Less, Equal, Greater, refl}
-use Rattle.rooms_val.proofs.Places.{order}
-use Rattle.field_ops.proofs.ForRoomsVal.{same_key, flipped, taken_first_at, taken_lower_at}
+use Rattle.rooms_val.specs.Maps.{order}
+use Rattle.rooms_val.proofs.MapsLemmas.{same_key, flipped, taken_first_at, taken_lower_at}
 use Rattle.field_ops.proofs.walk.take_least.Goals as goal
 
 pub returns-in_default-clause-right : goal.returns-in_default-clause-right
@@ -28,7 +28,7 @@ returns-in-Equal-clause-right g c =
 pub returns-in-Greater-clause-left : goal.returns-in-Greater-clause-left
 returns-in-Greater-clause-left g c =
     let higher : order c.in-Some.left.now.0 c.in-Some-split_first-2.right.now.0 ≡ Greater = cc in
-    taken_lower_at _ c.in-Some.left.now _ _ c.in-Some.ensures.cases.0 c.requires.lefts_rise (flipped c.in-Some.left.now.0 c.in-Some-split_first-2.right.now.0 higher)
+    taken_lower_at _ c.in-Some.left.now _ _ c.in-Some.ensures.cases.0 c.requires.lefts_rise (flipped c.in-Some.left.now.0 c.in-Some-split_first-2.right.now.0 Greater higher)
 
 pub returns-in-Greater-clause-right : goal.returns-in-Greater-clause-right
 returns-in-Greater-clause-right g c = taken_first_at _ c.in-Some-split_first-2.right.now _ _ c.in-Some-split_first-2.ensures.cases.0 c.requires.rights_rise refl

@@ -1,7 +1,7 @@
 use Rattle.std.proofs.Common.{sym, ap, ◌∙◌}
 use Rattle.rooms_val.specs.View.{data_of}
 use Rattle.field_ops.specs.WireRecordOps.{diff_pairs}
-use Rattle.field_ops.proofs.Sent.{same_map}
+use Rattle.field_ops.proofs.WireLemmas.{same_map}
 use Rattle.field_ops.proofs.diff.Diff.read.Goals as goal
 
 pub returns-in_err-read_fields-in-Map-clause-only : goal.returns-in_err-read_fields-in-Map-clause-only

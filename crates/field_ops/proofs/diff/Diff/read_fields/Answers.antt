@@ -1,13 +1,14 @@
 use Rattle.std.proofs.Common.{[], ◌+◌, Some, drop, refl, sym, ap, subst, ◌∙◌, arith}
 use Rattle.rooms_val.specs.Data.{map, members_of, IsSound}
 use Rattle.rooms_val.specs.View.{data_of, pairs_view}
-use Rattle.field_ops.specs.Entries.{with_key}
+use Rattle.rooms_val.specs.Maps.{with_key}
 use Rattle.field_ops.specs.ViewRecordOps.{change_of}
 use Rattle.field_ops.specs.WireRecordOps.{change_data, diff_pairs}
-use Rattle.field_ops.proofs.ForRoomsVal.{seen-with_key}
-use Rattle.field_ops.proofs.Sent.{read_at, reads, no_record}
-use Rattle.field_ops.proofs.Soundness.{rising_fields, rising_fields_slice}
-use Rattle.field_ops.proofs.Stages.{Going, going_first, going_next, going_done}
+use Rattle.rooms_val.proofs.MapsLemmas.{seen-with_key}
+use Rattle.field_ops.proofs.WireLemmas.{read_at, reads, no_record}
+use Rattle.rooms_val.proofs.DataLemmas.{rising_pairs}
+use Rattle.field_ops.proofs.SoundLemmas.{rising_fields_slice}
+use Rattle.field_ops.proofs.WalkLemmas.{Going, going_first, going_next, going_done}
 use Rattle.field_ops.proofs.diff.Diff.read_fields.Goals as goal
 
 pub loop-id-init : goal.loop-id-init
@@ -33,5 +34,5 @@ loop-id-preserved c =
 pub returns-clause-found : goal.returns-clause-found
 returns-clause-found c =
     let s = c.as_slice-id-items.result.now in
-    sym (going_done read_at (pairs_view s) s c.loop-id.id-index (diff_pairs c.loop-id.diff) (rising_fields (pairs_view s) (subst (λ f. IsSound (map (members_of f))) (sym c.as_slice-id-items.ensures.pairs) c.as_slice-id-items.ensures.sound)) (omega arith) c.loop-id.invariant
+    sym (going_done read_at (pairs_view s) s c.loop-id.id-index (diff_pairs c.loop-id.diff) (rising_pairs (pairs_view s) (subst (λ f. IsSound (map (members_of f))) (sym c.as_slice-id-items.ensures.pairs) c.as_slice-id-items.ensures.sound)) (omega arith) c.loop-id.invariant
     ∙ c.as_slice-id-items.ensures.pairs)

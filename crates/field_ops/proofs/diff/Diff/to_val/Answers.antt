@@ -1,11 +1,11 @@
 use Rattle.std.proofs.Common.{[], ◌+◌, Some, drop, refl, sym, ap, subst, ◌∙◌, arith}
 use Rattle.rooms_val.specs.Data.{map, members_of}
-use Rattle.field_ops.specs.Entries.{AreRising, with_key}
+use Rattle.rooms_val.specs.Maps.{AreRising, with_key}
 use Rattle.field_ops.specs.ViewRecordOps.{change_of, changes_view}
 use Rattle.field_ops.specs.WireRecordOps.{change_data, diff_pairs, diff_data}
-use Rattle.field_ops.proofs.Sent.{sends_records, rising_records_sent}
-use Rattle.field_ops.proofs.Soundness.{rising_records}
-use Rattle.field_ops.proofs.Stages.{Going, going_first, going_next, going_done}
+use Rattle.field_ops.proofs.WireLemmas.{sends_records, rising_records_sent}
+use Rattle.field_ops.proofs.SoundLemmas.{rising_records}
+use Rattle.field_ops.proofs.WalkLemmas.{Going, going_first, going_next, going_done}
 use Rattle.field_ops.proofs.diff.Diff.to_val.Invariants.{sent_at}
 use Rattle.field_ops.proofs.diff.Diff.to_val.Goals as goal
 

@@ -3,7 +3,7 @@ use Rattle.rooms_val.specs.Data.{Data}
 use Rattle.field_ops.specs.ViewRecordOps.{change_of, changes_view}
 use Rattle.field_ops.specs.WireRecordOps.{change_data, diff_pairs}
 use Rattle.field_ops.specs.declared.record_op.RecordOp.{RecordOp}
-use Rattle.field_ops.proofs.Stages.{Going}
+use Rattle.field_ops.proofs.WalkLemmas.{Going}
 use Rattle.field_ops.proofs.diff.Diff.to_val.Given as goal
 
 -- what an id gives: the value of its operation

@@ -1,8 +1,8 @@
-use Rattle.std.proofs.Common.{option_map, sym, ap, ◌∙◌}
-use Rattle.field_ops.specs.Entries.{value_at}
+use Rattle.std.proofs.Common.{option_map, ap, ◌∙◌}
+use Rattle.rooms_val.specs.Maps.{value_at}
 use Rattle.field_ops.specs.View.{edit_of}
-use Rattle.field_ops.proofs.ForRoomsVal.{at-seen, option_map-after}
-use Rattle.field_ops.proofs.Soundness.{rising_ops}
+use Rattle.rooms_val.proofs.MapsLemmas.{option_map-after, value_seen}
+use Rattle.field_ops.proofs.SoundLemmas.{rising_ops}
 use Rattle.field_ops.proofs.object_diff.ObjectDiff.get.Goals as goal
 
 pub get-requires : goal.get-requires
@@ -12,5 +12,4 @@ pub returns : goal.returns
 returns c =
     option_map-after c.get.result (λ x. x.now) edit_of
     ∙ ap (option_map edit_of) (c.get.ensures ∙ ap (λ es. value_at es c.args.key.now) c.deref.ensures.value)
-    ∙ sym (at-seen edit_of c.self.inside.entries.items c.args.key.now)
-    ∙ ap (λ ps. value_at ps c.args.key.now) c.self.view_is
+    ∙ value_seen edit_of _ _ c.self.view_is c.args.key.now

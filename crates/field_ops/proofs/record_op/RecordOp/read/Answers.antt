@@ -1,5 +1,5 @@
 use Rattle.rooms_val.specs.View.{items_view}
-use Rattle.field_ops.proofs.Sent.{no_remove, no_change, no_view}
+use Rattle.field_ops.proofs.WireLemmas.{no_remove, no_change, no_view}
 use Rattle.field_ops.proofs.record_op.RecordOp.read.Goals as goal
 
 pub returns-else-is_empty-clause-only : goal.returns-else-is_empty-clause-only

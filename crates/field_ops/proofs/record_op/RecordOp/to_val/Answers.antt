@@ -1,7 +1,7 @@
 use Rattle.std.proofs.Common.{◌++◌, ◌∷◌, [], codes, ap, ◌∙◌}
 use Rattle.rooms_val.specs.Data.{list, map, item, no_items, items_of, members_of}
 use Rattle.field_ops.specs.Wire.{named}
-use Rattle.field_ops.proofs.Sent.{members_of-patch_pairs}
+use Rattle.field_ops.proofs.WireLemmas.{members_of-patch_pairs}
 use Rattle.field_ops.proofs.record_op.RecordOp.to_val.Goals as goal
 
 pub returns-in_ok-with-in-Patch : goal.returns-in_ok-with-in-Patch

@@ -1,8 +1,9 @@
 -- Two rising lists that are gone through together, while what their keys give is put into a third.
-use Rattle.std.proofs.Common.{◌≡◌, ℕ, suc, ◌+◌, ◌<◌, ◌≤◌, length, get_or, drop, drop-cons, add-one, Bool, true, false, cond, List, [], ◌∷◌, Option, Some, None, refl, sym, ap, subst, ◌∙◌}
+use Rattle.std.proofs.Common.{◌≡◌, ℕ, ◌+◌, ◌<◌, ◌≤◌, length, get_or, drop, Bool, true, false, cond, List, [], Option, Some, None, refl, sym, ap, subst, ◌∙◌}
 use Rattle.std.proofs.lemmas.List.{drop_all}
-use Rattle.field_ops.specs.Entries.{AreRising, added, value_at, with_key, IsTaken}
-use Rattle.field_ops.proofs.ForRoomsVal.{ties, ties_same, at-with_key, at-without_key, rising-with_key, rising-without_key, order_itself, same_pairs, taken_first_at}
+use Rattle.rooms_val.specs.Maps.{AreRising, added, value_at, with_key, IsTaken, ties}
+use Rattle.rooms_val.proofs.ListLemmas.{one_off}
+use Rattle.rooms_val.proofs.MapsLemmas.{rising-added, ties_same, at-with_key, at-without_key, rising-without_key, order_itself, same_pairs, taken_first_at}
 
 module _ {Y : Type 0} where
   -- a key that is done has what is wanted; one that is pending has nothing yet and will get what is wanted
@@ -13,10 +14,6 @@ module _ {Y : Type 0} where
   at-added : (r : List (List ℕ × Y)) (k q : List ℕ) (o : Option Y) → ties q k ≡ false → value_at (added r k o) q ≡ value_at r q
   at-added r k q None apart = refl
   at-added r k q (Some y) apart = at-with_key r k q y ∙ rw apart refl
-
-  rising_added : (r : List (List ℕ × Y)) (k : List ℕ) (o : Option Y) → AreRising r → AreRising (added r k o)
-  rising_added r k None rising = rising
-  rising_added r k (Some y) rising = rising-with_key r k y rising
 
   at_itself : (r : List (List ℕ × Y)) (k : List ℕ) (y : Y) → value_at (with_key r k y) k ≡ Some y
   at_itself r k y = at-with_key r k k y ∙ rw (order_itself k) refl
@@ -86,7 +83,7 @@ module _ {A B Y : Type 0} where
   going_on f target ls ls' rs rs' r k a b o none ta tb is going = record {
     lefts_rise = subst AreRising (sym ta.rest_is) (rising-without_key ls k going.lefts_rise);
     rights_rise = subst AreRising (sym tb.rest_is) (rising-without_key rs k going.rights_rise);
-    result_rises = rising_added r k o going.result_rises;
+    result_rises = rising-added r k o going.result_rises;
     at_key = λ q.
         let at_k : f k (value_at ls k) (value_at rs k) ≡ o = (λ i. f k (sym ta.found_is i) (sym tb.found_is i)) ∙ is in
         let here : q ≡ k → Stage (value_at r k) (pending (f k) (value_at ls q) (value_at rs q)) (value_at target k) × (f k (value_at ls q) (value_at rs q) ≡ o) =
@@ -96,9 +93,6 @@ module _ {A B Y : Type 0} where
         (λ i. pending (f q) ((ap (λ es. value_at es q) ta.rest_is ∙ at-without_key ls k q) i) ((ap (λ es. value_at es q) tb.rest_is ∙ at-without_key rs k q) i)) ∙ pending-cond (f q) (ties q k) (value_at ls q) (value_at rs q) in
         subst (λ p. Stage (value_at (added r k o) q) p (value_at target q)) (sym same_left) stepped;
   }
-
-pub one_off : {X : Type 0} (s : List X) (i : ℕ) (x : X) → i < length s → x ≡ get_or s i x → drop i s ≡ x ∷ drop (i + 1) s
-one_off s i x within here = rw add-one (drop-cons s i x within ∙ ap (λ y. y ∷ drop (suc i) s) (sym here))
 
 -- one rising list alone, gone through by its places
 module _ {B Y : Type 0} where

@@ -2,12 +2,12 @@
 use Rattle.std.proofs.Common.{◌≡◌, ℕ, cond, List, [], ◌∷◌, Option, Some, None, option_map, unwrap_or, refl, sym, ap, ◌∙◌}
 use Rattle.std.specs.Option.{option_and_then}
 use Rattle.rooms_val.specs.Data.{Pairs}
-use Rattle.field_ops.specs.Entries.{AreRising, value_at}
+use Rattle.rooms_val.specs.Maps.{AreRising, value_at}
 use Rattle.field_ops.specs.ValueOps.{ValueOpTree, ValueOpTrees, no_edits, edit_at, edits_of, Patch}
 use Rattle.field_ops.specs.Patched.{edited, patched, value_after}
 use Rattle.field_ops.specs.Inverses.{undo, inverted}
 use Rattle.field_ops.specs.Compose.{after, both, edit_after}
-use Rattle.field_ops.proofs.ForRoomsVal.{by_tie, at-set_at, at-with_key, rising-set_at, rising-with_key}
+use Rattle.rooms_val.proofs.MapsLemmas.{by_tie, at-set_at, at-with_key, rising-set_at, rising-with_key}
 
 pub rising-patched : (es : ValueOpTrees) (f : Pairs) → AreRising f → AreRising (patched es f)
 rising-patched no_edits f rising = rising

@@ -1,10 +1,9 @@
 -- What stands under a key of a patch is no deeper than the patch.
 use Rattle.std.proofs.Common.{◌≡◌, ℕ, zero, suc, ◌<◌, ◌≤◌, length, get_or, true, false, cond, not, List, [], ◌∷◌, Option, Some, None, sym, subst, arith}
-use Rattle.field_ops.specs.Entries.{value_at, without_key, IsTaken}
+use Rattle.rooms_val.specs.Maps.{value_at, without_key, IsTaken, ties}
 use Rattle.field_ops.specs.ValueOps.{ValueOpTree, edits_of, edit_depth, edits_depth}
 use Rattle.field_ops.specs.View.{edit_of, patch_view, maybe_edit}
 use Rattle.field_ops.specs.declared.value_op.ValueOp.{ValueOp}
-use Rattle.field_ops.proofs.ForRoomsVal.{ties}
 
 abbrev pub maybe_depth : Option ValueOpTree → ℕ
 maybe_depth None = 0

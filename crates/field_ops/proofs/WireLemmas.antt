@@ -1,18 +1,18 @@
 -- What no operation is sent by, and how deep what is read may be.
 use Rattle.std.proofs.Common.{◌≡◌, ℕ, zero, suc, ◌<◌, ◌≤◌, ◌^◌, pos, List, [], ◌∷◌, length, get_or, codes, refl, sym, ap, subst, ◌∙◌, arith, T, false, ◌==◌, Option, None, option_map}
 use Rattle.rooms_val.specs.Data.{Data, null, list, map, whole, depth, member, Items, no_items, item, items_of, list_of, Pairs, members_of, pairs_of, members_depth, text}
-use Rattle.rooms_val.proofs.Views.{pairs_of-members_of}
+use Rattle.rooms_val.proofs.DataLemmas.{pairs_of-members_of, list_of-items_of}
 use Rattle.rooms_val.specs.View.{data_of, items_view, pairs_view}
 use Rattle.rooms_val.specs.declared.val.Val.{Val}
 use Rattle.field_ops.specs.ValueOps.{ValueOpTree, put, patch, append, delete, ValueOpTrees, no_edits, edit_at, edits_of, patch_of, Patch, IsSoundEdit, AreSoundEdits, IsSoundPatch}
 use Rattle.field_ops.specs.RecordOps as change
-use Rattle.field_ops.specs.Entries.{AreRising, value_at}
+use Rattle.rooms_val.specs.Maps.{AreRising, value_at}
 use Rattle.field_ops.specs.View.{edit_of, patch_view}
 use Rattle.field_ops.specs.ViewRecordOps.{change_of, changes_view}
 use Rattle.field_ops.specs.declared.value_op.ValueOp.{ValueOp}
 use Rattle.field_ops.specs.declared.record_op.RecordOp.{RecordOp}
-use Rattle.field_ops.proofs.ForRoomsVal.{at-seen, rising-seen, option_map-after}
-use Rattle.field_ops.specs.Wire.{named, edit_data, edits_data, patch_pairs, list_of-items_of}
+use Rattle.rooms_val.proofs.MapsLemmas.{at-seen, rising-seen, option_map-after}
+use Rattle.field_ops.specs.Wire.{named, edit_data, edits_data, patch_pairs}
 use Rattle.field_ops.specs.WireRecordOps.{change_data, change_in, change_in-change_data, diff_pairs}
 
 pub edits_of-patch_of : (es : ValueOpTrees) → edits_of (patch_of es) ≡ es
