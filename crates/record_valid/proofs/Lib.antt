@@ -1,4 +1,3 @@
-pub mod ForRoomsVal
-pub mod Passes
-pub mod Faults
-pub mod Law
+pub mod KeysLemmas
+pub mod FaultsLemmas
+pub mod FitsLemmas

@@ -4,10 +4,10 @@ use Rattle.std.proofs.Common.{arith}
 use denote.Param.Weighed.{most}
 use Rattle.record_valid.specs.Tree.{depth, rows_of, rows_depth}
 use Rattle.record_valid.specs.View.{tree_of, table_view}
-use Rattle.record_valid.specs.declared.kinds.Check.{Check}
-use Rattle.record_valid.specs.declared.kinds.Check.TheVariants.{Whole, Text, Enum, Bool, Key, Id, Nullable, ListOf, Dict, Object, ByType, Any}
-use Rattle.record_valid.specs.declared.checks.Checks.TheDeep.{deep-Check}
-use Rattle.record_valid.specs.declared.checks.Checks.TheShapes.{weighed-Checks-entries-at-2 as weighed_entry}
+use Rattle.record_valid.specs.declared.tree.Check.{Check}
+use Rattle.record_valid.specs.declared.tree.Check.TheVariants.{Whole, Text, Enum, Bool, Key, Id, Nullable, ListOf, Dict, Object, ByType, Any}
+use Rattle.record_valid.specs.declared.check_table.Checks.TheDeep.{deep-Check}
+use Rattle.record_valid.specs.declared.check_table.Checks.TheShapes.{weighed-Checks-entries-at-2 as weighed_entry}
 
 -- no `Check` is deeper than its tree, by the depth that the logic counts from one level on
 pub deep_le-depth : (c : Check) → deep-Check c ≤ suc (depth (tree_of c))

@@ -6,7 +6,9 @@ use Rattle.rooms_val.specs.Data.{Data, null, Items, no_items, item, Members, no_
 use Rattle.rooms_val.specs.Data as val
 use Rattle.record_valid.specs.Tree.{CheckTree, whole, text, one_of, boolean, key, id_of, nullable, list_of, dict, object, by_type, any, Rows, no_rows, row, table_of}
 use Rattle.record_valid.specs.Ids.{type_part}
-use Rattle.record_valid.specs.Parts.{as_truth, as_whole, as_text, as_items, as_members, type_text, keys_of, is_listed, lacks}
+use Rattle.rooms_val.specs.Kinds.{as_truth, as_whole, as_text, as_items, as_members}
+use Rattle.record_valid.specs.Parts.{type_text, is_listed, lacks}
+use Rattle.rooms_val.specs.Maps.{keys_of}
 use Rattle.record_valid.specs.Fits.{names}
 use Rattle.record_valid.specs.declared.reject.Reject.{Reject}
 use Rattle.record_valid.specs.declared.reject.RejectKind.{RejectKind}

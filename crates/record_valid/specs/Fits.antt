@@ -6,7 +6,9 @@ use Rattle.index_keys.specs.Keys.{IsKey}
 use Rattle.rooms_val.specs.Data.{Data, null, Items, no_items, item, Members, member, pairs_of}
 use Rattle.record_valid.specs.Tree.{CheckTree, whole, text, one_of, boolean, key, id_of, nullable, list_of, dict, object, by_type, any, Rows, no_rows, row, table_of}
 use Rattle.record_valid.specs.Ids.{IsIdOf}
-use Rattle.record_valid.specs.Parts.{as_truth, as_whole, as_text, as_items, as_members, type_text, keys_of, lacks}
+use Rattle.rooms_val.specs.Kinds.{as_truth, as_whole, as_text, as_items, as_members}
+use Rattle.record_valid.specs.Parts.{type_text, lacks}
+use Rattle.rooms_val.specs.Maps.{keys_of}
 
 -- the map has exactly the keys of the table
 pub record HasKeys (rs : Rows) (ms : Members) : Type 0 where

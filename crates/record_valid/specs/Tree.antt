@@ -1,8 +1,5 @@
 -- What a check is, as a tree that shares nothing with how the code keeps it.
 use Rattle.std.specs.Prelude.{ℕ, suc, max, ℤ, List, [], ◌∷◌}
-use Rattle.std.specs.Ordering.{nat_cmp}
-use Rattle.std.specs.Cmp.Lexicographic.{slice_cmp}
-use Rattle.std.specs.FinMap.Entries as entries
 
 -- the kinds of checks, as `Check` names them, and texts with their checks
 mutual
@@ -37,10 +34,6 @@ rows_of (e ∷ es) = row e.0 e.1 (rows_of es)
 abbrev pub table_of : Rows → Table
 table_of no_rows = []
 table_of (row k c rs) = (k, c) ∷ table_of rs
-
--- the table with a check under a text, in place of the one before
-abbrev pub put : Table → List ℕ → CheckTree → Table
-put es name c = entries.put (slice_cmp nat_cmp) name c es
 
 -- how deep checks stand in one another: 0 for one that has none inside
 abbrev mutual

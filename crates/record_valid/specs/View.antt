@@ -2,8 +2,8 @@
 use Rattle.std.specs.Prelude.{ℕ, List}
 use Rattle.std.specs.Prelude as std
 use Rattle.record_valid.specs.Tree.{CheckTree, whole, text, one_of, boolean, key, id_of, nullable, list_of, dict, object, by_type, any, rows_of, Table}
-use Rattle.record_valid.specs.declared.kinds.Check.{Check}
-use Rattle.record_valid.specs.declared.kinds.Check.TheVariants as c
+use Rattle.record_valid.specs.declared.tree.Check.{Check}
+use Rattle.record_valid.specs.declared.tree.Check.TheVariants as c
 
 -- the tree of a check
 abbrev pub tree_of : Check → CheckTree

@@ -3,8 +3,8 @@ ghost use Rattle.std.specs.Prelude.{◌≡◌, IfOk, None};
 ghost use Rattle.std.specs.Result.{result_err};
 ghost use Rattle.std.specs.Option.{option_copied};
 
-use crate::kinds::Check;
 use crate::reject::{Reject, RejectKind, at};
+use crate::tree::Check;
 use rooms_val::{Mem, Val};
 use std::alloc::Global;
 use std::marker::Model;

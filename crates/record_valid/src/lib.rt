@@ -5,20 +5,20 @@
 //! `index_keys` for the keys among texts.
 #![tactic(auto)]
 
-pub mod checks;
+pub mod check_table;
+pub mod fits;
 pub mod id;
 pub mod inner;
 mod keys;
-pub mod kinds;
 mod plain;
 pub mod reject;
 pub mod texts;
-pub mod valid;
+pub mod tree;
 
-pub use checks::Checks;
+pub use check_table::Checks;
+pub use fits::check;
 pub use id::id_type;
 pub use inner::Inner;
-pub use kinds::Check;
 pub use reject::{Reject, RejectKind};
 pub use texts::Texts;
-pub use valid::check;
+pub use tree::Check;

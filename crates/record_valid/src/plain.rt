@@ -2,32 +2,13 @@
 ghost use Rattle.std.specs.Prelude.{◌≡◌, option_map};
 ghost use Rattle.std.specs.Result.{result_err};
 ghost use Rattle.rooms_val.specs.View.{data_of};
-ghost use Rattle.record_valid.specs.Parts.{as_truth, as_whole, as_text, as_members, type_text, is_listed};
+ghost use Rattle.rooms_val.specs.Kinds.{as_truth, as_whole, as_text, as_members};
+ghost use Rattle.record_valid.specs.Parts.{is_listed};
 ghost use Rattle.record_valid.specs.Faults.{part_fault, unless, bounds_fault, length_fault, list_fault, key_fault, id_fault, no_fault};
 
 use crate::id::id_type;
 use crate::reject::RejectKind;
-use rooms_val::{Fields, Text, Val};
-
-/// The text that the value is.
-fn text_of(val: &Val) -> Option<&str>
-    ensures { option_map (λ t. t.now) result ≡ as_text (data_of val.now) }
-{
-    match val {
-        Val::Text(text) => Some(text.as_str()),
-        _ => None,
-    }
-}
-
-/// The text under the key `type`.
-pub(crate) fn type_text(map: &Fields) -> Option<&str>
-    ensures { option_map (λ t. t.now) result ≡ type_text map.now }
-{
-    match map.get("type") {
-        Some(val) => text_of(val),
-        None => None,
-    }
-}
+use rooms_val::{Text, Val};
 
 fn is_listed(texts: &[Text], wanted: &str) -> bool
     ensures { result ≡ is_listed texts.now wanted.now }
@@ -72,7 +53,7 @@ pub(crate) fn check_dict(val: &Val) -> Result<(), RejectKind>
 pub(crate) fn check_length(val: &Val, most: u64) -> Result<(), RejectKind>
     ensures { result_err result ≡ part_fault RejectKind.WrongKind (as_text (data_of val.now)) (length_fault most) }
 {
-    let Some(text) = text_of(val) else {
+    let Some(text) = val.as_text() else {
         return Err(RejectKind::WrongKind);
     };
     unless(text.len() as u64 <= most, RejectKind::OutOfBounds)
@@ -81,7 +62,7 @@ pub(crate) fn check_length(val: &Val, most: u64) -> Result<(), RejectKind>
 pub(crate) fn check_listed(val: &Val, texts: &[Text]) -> Result<(), RejectKind>
     ensures { result_err result ≡ part_fault RejectKind.WrongKind (as_text (data_of val.now)) (list_fault texts.now) }
 {
-    let Some(text) = text_of(val) else {
+    let Some(text) = val.as_text() else {
         return Err(RejectKind::WrongKind);
     };
     unless(is_listed(texts, text), RejectKind::NotListed)
@@ -90,7 +71,7 @@ pub(crate) fn check_listed(val: &Val, texts: &[Text]) -> Result<(), RejectKind>
 pub(crate) fn check_key(val: &Val) -> Result<(), RejectKind>
     ensures { result_err result ≡ part_fault RejectKind.WrongKind (as_text (data_of val.now)) key_fault }
 {
-    let Some(text) = text_of(val) else {
+    let Some(text) = val.as_text() else {
         return Err(RejectKind::WrongKind);
     };
     match index_keys::check(text) {
@@ -102,7 +83,7 @@ pub(crate) fn check_key(val: &Val) -> Result<(), RejectKind>
 pub(crate) fn check_id(val: &Val, types: &[Text]) -> Result<(), RejectKind>
     ensures { result_err result ≡ part_fault RejectKind.WrongKind (as_text (data_of val.now)) (id_fault types.now) }
 {
-    let Some(text) = text_of(val) else {
+    let Some(text) = val.as_text() else {
         return Err(RejectKind::WrongKind);
     };
     match id_type(text) {

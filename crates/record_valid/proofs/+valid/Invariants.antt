@@ -13,6 +13,6 @@ invariant-inner::Inner::check_list-loop-item l =
     first_fault l.depth None (list_of l.self) (data_of l.val) ≡ items_fault (λ e. first_fault (deeper l.depth) None l.self e) (items_of (items_view (drop l.item-index l.item-items)))
 
 -- the fault of the map is that of the fields that are left
-abbrev pub invariant-checks::Checks::check_object-loop-check : goal.invariant-checks::Checks::check_object-loop-check
-invariant-checks::Checks::check_object-loop-check l =
+abbrev pub invariant-check_table::Checks::check_object-loop-check : goal.invariant-check_table::Checks::check_object-loop-check
+invariant-check_table::Checks::check_object-loop-check l =
     first_fault l.depth None (object (rows_of l.self)) (data_of l.val) ≡ fields_fault l.inside (option_copied l.kind) (rows_of (table_view l.check-iterator.a.rest.now)) (members_of (pairs_view l.check-iterator.b.rest.now))

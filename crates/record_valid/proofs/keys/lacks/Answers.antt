@@ -1,7 +1,7 @@
 use Rattle.std.proofs.Common.{◌≡◌, suc, drop, true, None, sym, ap, ◌∙◌}
 use Rattle.std.specs.Option.{option_map_or}
 use Rattle.record_valid.specs.Parts.{behind}
-use Rattle.record_valid.proofs.Passes.{misses, misses-at, misses-end, misses-lacks}
+use Rattle.record_valid.proofs.KeysLemmas.{misses, misses-at, misses-end, misses-lacks}
 use Rattle.record_valid.proofs.keys.lacks.Goals as goal
 
 pub returns-in-None : goal.returns-in-None

@@ -1,5 +1,5 @@
 use Rattle.std.proofs.Common.{◌≡◌, drop}
-use Rattle.record_valid.proofs.Passes.{misses}
+use Rattle.record_valid.proofs.KeysLemmas.{misses}
 use Rattle.record_valid.proofs.keys.lacks.Given as goal
 
 abbrev pub invariant-loop-key : goal.invariant-loop-key

@@ -4,8 +4,8 @@ use Rattle.std.specs.Result.{result_err}
 use Rattle.rooms_val.specs.View.{data_of}
 use Rattle.record_valid.specs.View.{tree_of}
 use Rattle.record_valid.specs.declared.reject.Reject.{Reject}
-use Rattle.record_valid.proofs.Law.{law}
-use Rattle.record_valid.proofs.valid.check.Goals as goal
+use Rattle.record_valid.proofs.FitsLemmas.{law}
+use Rattle.record_valid.proofs.fits.check.Goals as goal
 
 ok_law : (r : Result (Unit {0}) Reject) → IsOk r ↔ (result_err r ≡ None)
 ok_law (Ok x) = (λ h. refl, λ h. refl)

@@ -3,7 +3,7 @@ ghost use Rattle.std.specs.Prelude.{◌≡◌, IfOk, map};
 ghost use Rattle.std.specs.Result.{result_err};
 ghost use Rattle.std.specs.Option.{option_copied};
 
-use crate::checks::Checks;
+use crate::check_table::Checks;
 use crate::inner::Inner;
 use crate::plain::{
     check_dict, check_id, check_key, check_length, check_listed, check_truth, check_whole,

@@ -3,14 +3,12 @@ ghost use Rattle.std.specs.Prelude.{◌≡◌, [], IfOk, None};
 ghost use Rattle.std.specs.Result.{result_err};
 ghost use Rattle.std.specs.Option.{option_copied};
 
-use crate::keys::{check_keys, place_of};
-use crate::kinds::Check;
-use crate::plain::type_text;
+use crate::keys::check_keys;
 use crate::reject::{Reject, RejectKind, at};
-use rooms_val::{Mem, Text, Val};
+use crate::tree::Check;
+use rooms_val::{Mem, Text, Val, entries};
 use std::alloc::Global;
 use std::marker::Model;
-use std::mem;
 
 /// A table from texts to checks. Contracts see its pairs, whose texts rise by bytes.
 #[cycle(check)]
@@ -20,10 +18,8 @@ pub struct Checks {
 }
 
 impl Model for Checks {
-    ghost use Rattle.std.specs.Prelude.{suc, T};
-    ghost use Rattle.std.specs.Ordering.{nat_cmp};
-    ghost use Rattle.std.specs.Cmp.Lexicographic.{slice_cmp};
-    ghost use Rattle.std.specs.FinMap.Entries.{is_sorted};
+    ghost use Rattle.std.specs.Prelude.{suc};
+    ghost use Rattle.rooms_val.specs.Maps.{AreRising};
     ghost use Rattle.record_valid.specs.Tree.{Table, rows_of, rows_depth};
     ghost use Rattle.record_valid.specs.Code.{coded_table};
 
@@ -35,7 +31,7 @@ impl Model for Checks {
 
     ghost view = { λ c. table_view c.entries.items };
 
-    ghost invariant = { λ c. T (is_sorted (slice_cmp nat_cmp) c.entries.items) };
+    ghost invariant = { λ c. AreRising c.entries.items };
 
     ghost size = { λ es. suc (rows_depth (rows_of es)) };
 
@@ -46,7 +42,8 @@ impl Model for Checks {
 
 impl Checks {
     ghost use Rattle.rooms_val.specs.View.{data_of};
-    ghost use Rattle.record_valid.specs.Tree.{object, by_type, put, rows_of};
+    ghost use Rattle.record_valid.specs.Tree.{object, by_type, rows_of};
+    ghost use Rattle.rooms_val.specs.Maps.{with_key};
     ghost use Rattle.record_valid.specs.View.{tree_of};
     ghost use Rattle.record_valid.specs.Faults.{first_fault, row_fault};
 
@@ -61,19 +58,11 @@ impl Checks {
 
     /// The table with a check under the text, in place of the one before.
     pub fn with(self, alloc: Global, text: &str, check: Check) -> Mem<Checks>
-        ensures { IfOk result (λ c. c ≡ put self text.now (tree_of check)) }
+        ensures { IfOk result (λ c. c ≡ with_key self text.now (tree_of check)) }
     {
         let mut entries = self.entries;
-        match place_of(&entries, text) {
-            Ok(place) => {
-                drop(mem::replace(&mut entries[place].1, check));
-                Ok(Checks { entries })
-            }
-            Err(place) => {
-                entries.insert(place, (Text::of(alloc, text)?, check))?;
-                Ok(Checks { entries })
-            }
-        }
+        drop(entries::put(&mut entries, Text::of(alloc, text)?, check)?);
+        Ok(Checks { entries })
     }
 
     /// The first fault of a map that is to have exactly these keys, each with a value that fits.
@@ -87,7 +76,7 @@ impl Checks {
         let inside = depth.saturating_add(1);
         let entries = map.as_slice();
         at(inside, check_keys(&self.entries, entries))?;
-        let kind = type_text(map);
+        let kind = map.text_at("type");
         for ((_, check), (_, field)) in self.entries.iter().zip(entries) {
             check.check_value(field, inside, kind)?;
         }
@@ -106,7 +95,7 @@ impl Checks {
         let Some(text) = kind else {
             return Err(unlisted);
         };
-        match place_of(&self.entries, text) {
+        match entries::place_of(&self.entries, text) {
             Ok(place) => self.entries[place].1.check_value(val, depth, kind),
             Err(_) => Err(unlisted),
         }

@@ -1,17 +1,14 @@
 -- One pass over two lists of rising keys finds out whether one lacks a key of the other.
-use Rattle.std.proofs.Common.{◌≡◌, ℕ, suc, zero, ◌<◌, ◌≤◌, Bool, true, false, ◌||◌, not, cond, T, List, [], ◌∷◌, length, drop, get_or, Some, None, Ordering, Less, is_eq, refl, sym, ap, subst, ◌∙◌, arith}
+use Rattle.std.proofs.Common.{◌≡◌, ℕ, suc, zero, ◌<◌, ◌≤◌, Bool, true, false, ◌||◌, not, cond, T, List, [], ◌∷◌, length, drop, get_or, Some, None, Less, is_eq, refl, sym, ap, subst, ◌∙◌, arith}
 use Rattle.std.specs.Option.{option_map_or}
-use Rattle.std.specs.Ordering.{is_lt}
 use Rattle.std.specs.Str.{bytes_eq}
 use Rattle.std.specs.FinMap.Entries.{is_sorted, below_all}
 use Rattle.std.proofs.lemmas.Cmp.{nat_list_cmp_total}
 use Rattle.std.proofs.lemmas.Map.Text.{is_eq-slice_cmp}
 use Rattle.std.proofs.lemmas.Slice.Eq.{bytes_eq-Decides}
-use Rattle.rooms_val.proofs.Places.{order, first, second}
-use Rattle.record_valid.specs.Parts.{keys_of, is_listed, lacks, behind}
-
-less : (o : Ordering) → T (is_lt o) → o ≡ Less
-less o h = elim o as (λ o. T (is_lt o) → o ≡ Less) [ Less ↦ λ h. refl | _ ↦ λ h. absurd h ] h
+use Rattle.rooms_val.specs.Maps.{order, keys_of}
+use Rattle.rooms_val.proofs.MapsLemmas.{first, second, less}
+use Rattle.record_valid.specs.Parts.{is_listed, lacks, behind}
 
 -- texts of which one is below the other are not the same
 apart : (a b : List ℕ) → order a b ≡ Less → bytes_eq a b ≡ false

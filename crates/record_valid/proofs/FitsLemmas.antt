@@ -14,7 +14,9 @@ use Rattle.rooms_val.specs.Data as val
 use Rattle.record_valid.specs.Tree.{CheckTree, whole, text, one_of, key, id_of, nullable, list_of, dict, object, by_type, any, Rows, no_rows, row, table_of}
 use Rattle.record_valid.specs.Tree as tree
 use Rattle.record_valid.specs.Ids.{type_part}
-use Rattle.record_valid.specs.Parts.{as_truth, as_whole, as_text, as_items, as_members, type_text, keys_of, is_listed, lacks}
+use Rattle.rooms_val.specs.Kinds.{as_truth, as_whole, as_text, as_items, as_members}
+use Rattle.record_valid.specs.Parts.{type_text, is_listed, lacks}
+use Rattle.rooms_val.specs.Maps.{keys_of}
 use Rattle.record_valid.specs.Fits.{Fits, FieldsFit, RowFits, HasKeys, EachItem, names}
 use Rattle.record_valid.specs.Faults.{unless, bounds_fault, keys_fault, part_fault, no_fault, deeper, reject, items_fault, null_or, first_fault, fields_fault, row_fault}
 use Rattle.record_valid.specs.declared.reject.Reject.{Reject}

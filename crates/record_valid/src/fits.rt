@@ -6,8 +6,8 @@ ghost use Rattle.record_valid.specs.View.{tree_of};
 ghost use Rattle.record_valid.specs.Fits.{Fits};
 ghost use Rattle.record_valid.specs.Faults.{first_fault};
 
-use crate::kinds::Check;
 use crate::reject::Reject;
+use crate::tree::Check;
 use rooms_val::Val;
 
 /// Tells whether the value fits the check, and if not its first fault, which [`Reject`] describes.

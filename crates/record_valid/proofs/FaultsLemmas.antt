@@ -7,16 +7,17 @@ use Rattle.rooms_val.specs.Data.{Data, map, items_of, members_of, Pairs}
 use Rattle.rooms_val.specs.View.{data_of, items_view, pairs_view}
 use Rattle.rooms_val.specs.declared.val.Val.{Val}
 use Rattle.rooms_val.specs.Places.{IsPlace, IsGap}
-use Rattle.rooms_val.proofs.Views.{pairs_of-members_of}
-use Rattle.rooms_val.proofs.Places.{order, find_at_place, find_in_gap}
+use Rattle.rooms_val.proofs.DataLemmas.{pairs_of-members_of}
+use Rattle.rooms_val.specs.Maps.{order, keys_of}
+use Rattle.rooms_val.proofs.PlacesLemmas.{find_at_place, find_in_gap}
 use Rattle.record_valid.specs.Tree.{object, Table, rows_of, table_of}
 use Rattle.record_valid.specs.View.{tree_of, table_view}
-use Rattle.record_valid.specs.Parts.{keys_of, type_text}
+use Rattle.record_valid.specs.Parts.{type_text}
 use Rattle.record_valid.specs.Faults.{items_fault, keys_fault, fields_fault, row_fault, first_fault, reject, deeper}
-use Rattle.record_valid.specs.declared.kinds.Check.{Check}
+use Rattle.record_valid.specs.declared.tree.Check.{Check}
 use Rattle.record_valid.specs.declared.reject.Reject.{Reject}
 use Rattle.record_valid.specs.declared.reject.RejectKind.TheVariants.{NotListed}
-use Rattle.record_valid.proofs.ForRoomsVal.{keys_of-view, find-view}
+use Rattle.rooms_val.proofs.MapsLemmas.{keys_of-seen, at-seen}
 
 module _ (fault : Data → Option Reject) where
   pub items-at : (vs : List Val) (i : ℕ) (v : Val) → i < length vs → v ≡ get_or vs i v
@@ -39,8 +40,8 @@ table_of-rows_of (e ∷ rows) = ap (λ rest. e ∷ rest) (table_of-rows_of rows)
 pub object-entries : (n : ℕ) (es : List (List ℕ × Check)) (fs : List (List ℕ × Val)) (rows : Table) (ps : Pairs) → table_view es ≡ rows → pairs_view fs ≡ ps
     → first_fault n None (object (rows_of rows)) (map (members_of ps)) ≡ option_or (option_map (reject (deeper n)) (keys_fault (keys_of es) (keys_of fs))) (fields_fault (deeper n) (type_text ps) (rows_of (table_view es)) (members_of (pairs_view fs)))
 object-entries n es fs rows ps seen too =
-    let wanted = ap keys_of (table_of-rows_of rows ∙ sym seen) ∙ keys_of-view tree_of es in
-    let given = ap keys_of (pairs_of-members_of ps ∙ sym too) ∙ keys_of-view data_of fs in
+    let wanted = ap keys_of (table_of-rows_of rows ∙ sym seen) ∙ keys_of-seen tree_of es in
+    let given = ap keys_of (pairs_of-members_of ps ∙ sym too) ∙ keys_of-seen data_of fs in
     λ i. option_or (option_map (reject (deeper n)) (keys_fault (wanted i) (given i))) (fields_fault (deeper n) (type_text (pairs_of-members_of ps i)) (rows_of (sym seen i)) (members_of (sym too i)))
 
 module _ (n : ℕ) (d : Data) where
@@ -57,7 +58,7 @@ module _ (n : ℕ) (d : Data) where
 
   module _ (es s : List (List ℕ × Check)) (rows : Table) (t : List ℕ) (p : ℕ) (seen : table_view es ≡ rows) (same : s ≡ es) where
     found_by : row_fault n (Some t) (rows_of rows) d ≡ option_map_or (λ c. first_fault n (Some t) c d) (option_map tree_of (find order t es)) (Some (reject n NotListed))
-    found_by = row-find t rows ∙ ap (λ o. option_map_or (λ c. first_fault n (Some t) c d) o (Some (reject n NotListed))) (ap (find order t) (sym seen) ∙ find-view tree_of es t)
+    found_by = row-find t rows ∙ ap (λ o. option_map_or (λ c. first_fault n (Some t) c d) o (Some (reject n NotListed))) (ap (find order t) (sym seen) ∙ at-seen tree_of es t)
 
     pub row-at : IsPlace s t p → (x : List ℕ × Check) → x ≡ get_or es p x → row_fault n (Some t) (rows_of rows) d ≡ first_fault n (Some t) (tree_of x.1) d
     row-at at x is = found_by ∙ ap (λ o. option_map_or (λ c. first_fault n (Some t) c d) (option_map tree_of o) (Some (reject n NotListed))) (find_at_place es t p x (subst (λ l. IsPlace l t p) same at)) ∙ ap (λ y. first_fault n (Some t) (tree_of y.1) d) (sym is)
