@@ -1,6 +1,7 @@
-pub mod ForRoomsVal
-pub mod Rows
-pub mod Schemas
-pub mod Orders
-pub mod Seats
-pub mod Sorts
+pub mod RowLemmas
+pub mod SerializedLemmas
+pub mod OrderLemmas
+pub mod PlanLemmas
+pub mod BuildLemmas
+pub mod Counts
+pub mod Numbers

@@ -6,3 +6,4 @@ pub mod Plans
 pub mod Builds
 pub mod Shown
 pub mod SequencesOf
+pub mod Laws

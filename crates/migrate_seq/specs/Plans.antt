@@ -12,7 +12,8 @@ use Rattle.migrate_seq.specs.declared.fault.PlanFault.TheVariants.{TooNew, Unkno
 use Rattle.migrate_seq.specs.declared.place.Place.{Place}
 use Rattle.migrate_seq.specs.Order.{first_some, in_order, never_taken, IsOrderOf}
 use Rattle.migrate_seq.specs.Steps.{can_scale}
-use Rattle.migrate_seq.specs.Versions.{Versions, version_in, with_version}
+use Rattle.migrate_seq.specs.Versions.{Versions}
+use Rattle.rooms_val.specs.Maps.{value_at, with_key}
 
 -- the migration at a place
 abbrev pub migration_at : List Sequence → Place → Option Migration
@@ -45,7 +46,7 @@ places_from sequence migration (suc n) = record { sequence = sequence; migration
 
 -- how many migrations of a sequence aren't missed: those up to the version that is held
 abbrev pub first_missing : Versions → Sequence → ℕ
-first_missing held s = option_map_or (λ n. n) (version_in held s.id) (if s.retroactive then 0 else length s.migrations.items)
+first_missing held s = option_map_or (λ n. n) (value_at held s.id) (if s.retroactive then 0 else length s.migrations.items)
 
 -- the places that are missed of the sequences from the i-th on
 abbrev pub missing_from : Versions → ℕ → List Sequence → List Place
@@ -112,4 +113,4 @@ are_both_ways ms = list_all (λ m. is_record m.scope && m.has_down) ms
 
 -- the newest version of each sequence that has migrations
 abbrev pub newest_versions : List Sequence → Versions
-newest_versions seqs = fold (λ vs s. if nat_eq (length s.migrations.items) 0 then vs else with_version vs s.id (length s.migrations.items)) [] seqs
+newest_versions seqs = fold (λ vs s. if nat_eq (length s.migrations.items) 0 then vs else with_key vs s.id (length s.migrations.items)) [] seqs

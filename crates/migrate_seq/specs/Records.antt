@@ -2,7 +2,7 @@
 use Rattle.std.specs.Prelude.{ℕ, List, [], ◌∷◌, Bool, true, false, ◌&&◌, if◌then◌else◌, Option, Some, None, fold, codes}
 use Rattle.std.specs.Str.{bytes_eq}
 use Rattle.rooms_val.specs.Data.{Data, null, boolean, whole, text, list, map}
-use Rattle.rooms_val.specs.Maps.{field}
+use Rattle.rooms_val.specs.Kinds.{field}
 use Rattle.migrate_seq.specs.declared.migration.Filter.{Filter}
 use Rattle.migrate_seq.specs.declared.migration.Filter.TheVariants.{All, Type_, Kind}
 use Rattle.migrate_seq.specs.declared.migration.Migration.{Migration}

@@ -6,38 +6,30 @@ use Rattle.std.specs.Option.{option_map_or}
 use Rattle.std.specs.Str.{bytes_eq}
 use Rattle.rooms_val.specs.Data.{Data, null, boolean, whole, text, list, map, pairs_of, members_of, Pairs}
 use Rattle.rooms_val.specs.Json.{greatest_whole}
-use Rattle.rooms_val.specs.Maps.{get, put, without}
+use Rattle.rooms_val.specs.Kinds.{on_map}
+use Rattle.rooms_val.specs.Maps.{value_at, with_key, without_key}
 use Rattle.rooms_val.specs.View.{data_of}
 use Rattle.migrate_seq.specs.declared.step.MigStep.{MigStep}
 use Rattle.migrate_seq.specs.declared.step.MigStep.TheVariants.{Add, Remove, Rename, MapEnum, Scale, Nest, Unnest}
 use Rattle.migrate_seq.specs.declared.step.Way.{Way}
 use Rattle.migrate_seq.specs.declared.step.Way.TheVariants.{Up, Down}
 
--- a value after a change of it where it is a map
-abbrev pub in_map : (Pairs → Pairs) → Data → Data
-in_map change null = null
-in_map change (boolean b) = boolean b
-in_map change (whole z) = whole z
-in_map change (text s) = text s
-in_map change (list ds) = list ds
-in_map change (map ms) = map (members_of (change (pairs_of ms)))
-
 -- a map after a change of the value under a key, where it has the key
 abbrev pub changed_at : List ℕ → (Data → Data) → Pairs → Pairs
-changed_at key change ps = option_map_or (λ d. put ps key (change d)) (get ps key) ps
+changed_at key change ps = option_map_or (λ d. with_key ps key (change d)) (value_at ps key) ps
 
 -- a value after a change of the map that a path leads to, where it leads to one
 abbrev pub at_path : List (List ℕ) → (Pairs → Pairs) → Data → Data
-at_path [] change d = in_map change d
-at_path (key ∷ path) change d = in_map (changed_at key (at_path path change)) d
+at_path [] change d = on_map change d
+at_path (key ∷ path) change d = on_map (changed_at key (at_path path change)) d
 
 -- the value stands under the key where the key was missing
 abbrev pub added : List ℕ → Data → Pairs → Pairs
-added key d ps = if is_some (get ps key) then ps else put ps key d
+added key d ps = if is_some (value_at ps key) then ps else with_key ps key d
 
 -- the value of one key stands under another alone
 abbrev pub renamed : List ℕ → List ℕ → Pairs → Pairs
-renamed from to ps = option_map_or (λ d. put (without ps from) to d) (get ps from) ps
+renamed from to ps = option_map_or (λ d. with_key (without_key ps from) to d) (value_at ps from) ps
 
 -- the second of the first pair that has the text as its first, or the text where there is none
 abbrev pub replacement : List (List ℕ × List ℕ) → List ℕ → List ℕ
@@ -90,7 +82,7 @@ divided factor (map ms) = map ms
 
 -- two maps after the value of a key moved from the first to the second, where the first has the key
 abbrev pub moved_one : List ℕ → Pairs × Pairs → Pairs × Pairs
-moved_one key m = option_map_or (λ d. (without m.0 key, put m.1 key d)) (get m.0 key) m
+moved_one key m = option_map_or (λ d. (without_key m.0 key, with_key m.1 key d)) (value_at m.0 key) m
 
 -- two maps after the values of some keys moved from the first to the second
 abbrev pub moved : List (List ℕ) → Pairs × Pairs → Pairs × Pairs
@@ -99,7 +91,7 @@ moved keys m = std.fold (λ n key. moved_one key n) m keys
 -- the first map, with the second under a key where that isn't empty
 abbrev pub joined_under : List ℕ → Pairs × Pairs → Pairs
 joined_under into (rest, []) = rest
-joined_under into (rest, p ∷ inner) = put rest into (map (members_of (p ∷ inner)))
+joined_under into (rest, p ∷ inner) = with_key rest into (map (members_of (p ∷ inner)))
 
 -- where one of the keys is there, those move into a new map under a key
 abbrev pub nested : List (List ℕ) → List ℕ → Pairs → Pairs
@@ -107,7 +99,7 @@ nested keys into ps = joined_under into (moved keys (ps, []))
 
 -- where a key's value is a map, the key goes and the map's values under some keys move out
 abbrev pub unnested_from : Option Data → List (List ℕ) → List ℕ → Pairs → Pairs
-unnested_from (Some (map ms)) keys into ps = (moved keys (pairs_of ms, without ps into)).1
+unnested_from (Some (map ms)) keys into ps = (moved keys (pairs_of ms, without_key ps into)).1
 unnested_from (Some null) keys into ps = ps
 unnested_from (Some (boolean b)) keys into ps = ps
 unnested_from (Some (whole z)) keys into ps = ps
@@ -116,18 +108,18 @@ unnested_from (Some (list ds)) keys into ps = ps
 unnested_from None keys into ps = ps
 
 abbrev pub unnested : List (List ℕ) → List ℕ → Pairs → Pairs
-unnested keys into ps = unnested_from (get ps into) keys into ps
+unnested keys into ps = unnested_from (value_at ps into) keys into ps
 
 -- what a step makes of the map that its path leads to, up and down
 abbrev pub row : Way → MigStep → Pairs → Pairs
 row Up (Add path key v) ps = added key (data_of v) ps
-row Up (Remove path key v) ps = without ps key
+row Up (Remove path key v) ps = without_key ps key
 row Up (Rename path old new) ps = renamed old new ps
 row Up (MapEnum path key pairs) ps = changed_at key (replaced (toward Up pairs.items)) ps
 row Up (Scale path key factor) ps = changed_at key (scaled factor) ps
 row Up (Nest path keys into) ps = nested keys.items into ps
 row Up (Unnest path keys into) ps = unnested keys.items into ps
-row Down (Add path key v) ps = without ps key
+row Down (Add path key v) ps = without_key ps key
 row Down (Remove path key v) ps = added key (data_of v) ps
 row Down (Rename path old new) ps = renamed new old ps
 row Down (MapEnum path key pairs) ps = changed_at key (replaced (toward Down pairs.items)) ps

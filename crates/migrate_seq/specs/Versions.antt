@@ -1,27 +1,16 @@
 -- Versions of sequences, and the value that stands for them.
-use Rattle.std.specs.Prelude.{ℕ, pos, negsuc, List, [], ◌∷◌, Bool, true, false, Option, codes}
-use Rattle.std.specs.Prelude as std
+use Rattle.std.specs.Prelude.{ℕ, pos, negsuc, List, [], ◌∷◌, Bool, true, false, codes}
 use Rattle.std.specs.List.{list_all}
-use Rattle.std.specs.Ordering.{nat_cmp}
-use Rattle.std.specs.Cmp.Lexicographic.{slice_cmp}
-use Rattle.std.specs.FinMap.Entries as entries
 use Rattle.rooms_val.specs.Data.{Data, null, boolean, whole, text, list, map, members_of, Pairs}
+use Rattle.rooms_val.specs.Maps.{seen}
 
 -- names of sequences with a version each
 abbrev pub Versions : Type 0
 Versions = List (List ℕ × ℕ)
 
--- the version of a sequence
-abbrev pub version_in : Versions → List ℕ → Option ℕ
-version_in vs name = entries.find (slice_cmp nat_cmp) name vs
-
--- the versions with that of one sequence set
-abbrev pub with_version : Versions → List ℕ → ℕ → Versions
-with_version vs name n = entries.put (slice_cmp nat_cmp) name n vs
-
 -- the versions as a map of numbers
 abbrev pub numbers_of : Versions → Pairs
-numbers_of vs = std.map (λ e. (e.0, whole (pos e.1))) vs
+numbers_of vs = seen (λ n. whole (pos n)) vs
 
 -- a schema as it is sent and saved, with what it has under its sequences
 abbrev pub schema_pairs : Pairs → Pairs
@@ -60,4 +49,4 @@ are_numbers ps = list_all (λ p. is_number p.1) ps
 
 -- the versions that a map of numbers has
 abbrev pub versions_in : Pairs → Versions
-versions_in ps = std.map (λ p. (p.0, number_in p.1)) ps
+versions_in ps = seen number_in ps

@@ -9,6 +9,7 @@
 
 mod build;
 pub mod fault;
+pub mod laws;
 pub mod migration;
 mod order;
 pub mod place;

@@ -2,7 +2,7 @@
 ghost use Rattle.std.specs.Prelude.{◌≡◌, IsTrue, IfOk};
 ghost use Rattle.std.specs.List.{list_all};
 ghost use Rattle.rooms_val.specs.Data.{Data};
-ghost use Rattle.rooms_val.specs.Maps.{field};
+ghost use Rattle.rooms_val.specs.Kinds.{field};
 ghost use Rattle.rooms_val.specs.View.{data_of};
 ghost use Rattle.migrate_seq.specs.Steps.{can_scale};
 ghost use Rattle.migrate_seq.specs.Records.{has_text, passes, raised, lowered, migrated};

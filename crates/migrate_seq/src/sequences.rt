@@ -1,5 +1,5 @@
 //! Sequences of migrations that fit together.
-ghost use Rattle.std.specs.Prelude.{◌≡◌, IsTrue, IfOk};
+ghost use Rattle.std.specs.Prelude.{◌≡◌, Bool, IsTrue, IfOk, count_by};
 ghost use Rattle.std.specs.List.{list_all};
 ghost use Rattle.rooms_val.specs.Answers.{Gives};
 ghost use Rattle.rooms_val.specs.View.{data_of};
@@ -40,6 +40,9 @@ impl Sequences {
         requires { IsTrue (can_all_scale list.items) }
         ensures answer { Gives seq_fault.OutOfMemory sequences_of result (built list.items) }
         ensures rising { IfOk result (λ s. IsTrue (have_rising_ids (sequences_of s))) }
+
+        // They are the listed ones, each as often.
+        ensures same { IfOk result (λ s. (test : Sequence → Bool) → count_by test (sequences_of s) ≡ count_by test list.items) }
     {
         if let Some(id) = gap(&list) {
             let id = id.copy(alloc)?;

@@ -4,7 +4,8 @@ ghost use Rattle.std.specs.Prelude.{pos};
 ghost use Rattle.rooms_val.specs.Data.{Pairs, whole};
 ghost use Rattle.rooms_val.specs.View.{data_of};
 ghost use Rattle.rooms_val.specs.declared.fault.OpFault.TheVariants as op_fault;
-ghost use Rattle.migrate_seq.specs.Versions.{is_number, are_numbers, number_in, version_in, with_version, schema_with, schema_of};
+ghost use Rattle.migrate_seq.specs.Versions.{is_number, are_numbers, number_in, schema_with, schema_of};
+ghost use Rattle.rooms_val.specs.Maps.{value_at, with_key};
 
 use rooms_val::{Fields, Mem, OpFault, Text, Val};
 use std::alloc::Global;
@@ -68,7 +69,7 @@ impl Serialized {
 
     /// The version of a sequence. `None` exactly where the sequence isn't named.
     pub fn get(&self, name: &str) -> Option<u64>
-        ensures { result ≡ version_in self.now name.now }
+        ensures { result ≡ value_at self.now name.now }
     {
         match self.versions.get(name) {
             Some(val) => Some(number(val)),
@@ -79,7 +80,7 @@ impl Serialized {
     /// Sets the version of a sequence. Where memory is refused nothing changes.
     pub fn put(&mut self, name: Text, version: u64) -> Mem<()>
         requires { version < 2 ^ 63 }
-        ensures ok { OnOk result (self.new ≡ with_version self.old name version) }
+        ensures ok { OnOk result (self.new ≡ with_key self.old name version) }
         ensures err { OnErr result (self.new ≡ self.old) }
     {
         self.versions.put(name, Val::Int(version as i64))?;

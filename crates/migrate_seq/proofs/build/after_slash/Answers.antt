@@ -1,5 +1,5 @@
 use Rattle.std.proofs.Common.{◌∙◌, sym, arith}
-use Rattle.migrate_seq.proofs.Sorts.{out_of_bytes}
+use Rattle.migrate_seq.proofs.BuildLemmas.{out_of_bytes}
 use Rattle.migrate_seq.proofs.build.after_slash.Goals as goal
 
 pub returns-then-place-id : goal.returns-then-place-id

@@ -2,7 +2,7 @@ use Rattle.std.proofs.Common.{◌∙◌, sym, ap, take, drop, Some, add-one, ari
 use Rattle.std.specs.List.{list_any}
 use Rattle.std.specs.Str.{bytes_eq}
 use Rattle.migrate_seq.specs.Builds.{doubled_after}
-use Rattle.migrate_seq.proofs.Sorts.{doubled_past, doubled_found}
+use Rattle.migrate_seq.proofs.BuildLemmas.{doubled_past, doubled_found}
 use Rattle.migrate_seq.proofs.build.doubled.Goals as goal
 
 pub returns-then-is_among : goal.returns-then-is_among

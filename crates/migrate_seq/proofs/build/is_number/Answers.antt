@@ -1,6 +1,6 @@
 use Rattle.std.proofs.Common.{◌∙◌, sym, ap, ◌<◌, ◌+◌, ◌*◌, ◌-◌, get_or, arith}
 use Rattle.std.specs.Prelude.{nat_eq}
-use Rattle.migrate_seq.proofs.Sorts.{too_great}
+use Rattle.migrate_seq.proofs.BuildLemmas.{too_great}
 use Rattle.migrate_seq.proofs.build.is_number.Goals as goal
 
 pub returns-in_default : goal.returns-in_default

@@ -1,7 +1,7 @@
 use Rattle.std.proofs.Common.{◌∙◌, sym, ap, get_or, arith}
 use Rattle.std.specs.Ordering.{is_lt, nat_cmp}
 use Rattle.std.specs.Cmp.Lexicographic.{slice_cmp}
-use Rattle.migrate_seq.proofs.Sorts.{inserted_at, inserted_last}
+use Rattle.migrate_seq.proofs.BuildLemmas.{inserted_at, inserted_last}
 use Rattle.migrate_seq.proofs.build.place_for.Goals as goal
 
 pub returns-then-lt-clause-place : goal.returns-then-lt-clause-place

@@ -2,7 +2,7 @@ use Rattle.std.proofs.Common.{◌<◌, length, ap, sym, ◌∙◌, arith}
 use Rattle.std.proofs.lemmas.List.{get_or_default}
 use Rattle.migrate_seq.specs.Order.{is_free}
 use Rattle.migrate_seq.specs.Plans.{follows}
-use Rattle.migrate_seq.proofs.Orders.{picked_at, picked_none}
+use Rattle.migrate_seq.proofs.OrderLemmas.{picked_at, picked_none}
 use Rattle.migrate_seq.proofs.order.first_free.Goals as goal
 
 pub returns-then-is_free-clause-picked : goal.returns-then-is_free-clause-picked

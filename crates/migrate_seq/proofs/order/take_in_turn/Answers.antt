@@ -1,7 +1,7 @@
 use Rattle.std.proofs.Common.{◌≡◌, suc, ◌∙◌, sym, ap, ◌++◌, ◌<◌, length, append-nil, arith}
 use Rattle.migrate_seq.specs.Order.{taken_and_left}
 use Rattle.migrate_seq.specs.Plans.{follows}
-use Rattle.migrate_seq.proofs.Orders.{taken_more, length-picked, taken-none}
+use Rattle.migrate_seq.proofs.OrderLemmas.{taken_more, length-picked, taken-none}
 use Rattle.migrate_seq.proofs.order.take_in_turn.Goals as goal
 
 pub places-smaller : goal.places-smaller

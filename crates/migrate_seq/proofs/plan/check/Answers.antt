@@ -1,7 +1,7 @@
 use Rattle.std.proofs.Common.{◌∙◌, sym, ap, drop, add-one}
 use Rattle.migrate_seq.specs.Order.{first_some}
 use Rattle.migrate_seq.specs.Plans.{version_fault, refusal}
-use Rattle.migrate_seq.proofs.Seats.{passed, refused}
+use Rattle.migrate_seq.proofs.PlanLemmas.{passed, refused}
 use Rattle.migrate_seq.proofs.plan.check.Goals as goal
 
 pub returns-in-Err : goal.returns-in-Err

@@ -1,7 +1,7 @@
 use Rattle.std.proofs.Common.{◌∙◌, sym, ap, ◌++◌, [], ◌∷◌, ◌<◌, ◌+◌, ◌-◌, append_assoc, arith}
 use Rattle.migrate_seq.specs.declared.place.Place.{Place}
 use Rattle.migrate_seq.specs.Plans.{places_from}
-use Rattle.migrate_seq.proofs.Seats.{places_from-less}
+use Rattle.migrate_seq.proofs.PlanLemmas.{places_from-less}
 use Rattle.migrate_seq.proofs.plan.push_places.Goals as goal
 
 pub loop-migration-preserved : goal.loop-migration-preserved

@@ -1,5 +1,5 @@
 use Rattle.migrate_seq.specs.Steps.{at_path, row}
-use Rattle.migrate_seq.proofs.Rows.{at_end, at_key, at_no_map, changed_some, changed_none}
+use Rattle.migrate_seq.proofs.RowLemmas.{at_end, at_key, at_no_map, changed_some, changed_none}
 use Rattle.migrate_seq.proofs.row.+walk.Goals as goal
 
 pub returns-in_ok-change-in-empty : goal.returns-in_ok-change-in-empty

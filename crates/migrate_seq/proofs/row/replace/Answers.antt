@@ -1,5 +1,5 @@
 use Rattle.migrate_seq.specs.Steps.{replaced, toward}
-use Rattle.migrate_seq.proofs.Rows.{changed_some, changed_none}
+use Rattle.migrate_seq.proofs.RowLemmas.{changed_some, changed_none}
 use Rattle.migrate_seq.proofs.row.replace.Goals as goal
 
 pub returns-in_ok-put : goal.returns-in_ok-put

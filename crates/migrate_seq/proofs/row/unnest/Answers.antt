@@ -1,6 +1,6 @@
 use Rattle.std.proofs.Common.{sym, ap, ◌∙◌, Some}
 use Rattle.rooms_val.specs.View.{data_of}
-use Rattle.migrate_seq.proofs.Rows.{unnested_map, unnested_other, unnested_none}
+use Rattle.migrate_seq.proofs.RowLemmas.{unnested_map, unnested_other, unnested_none}
 use Rattle.migrate_seq.proofs.row.unnest.Goals as goal
 
 pub returns-in-Map : goal.returns-in-Map

@@ -1,5 +1,5 @@
 use Rattle.std.proofs.Common.{◌∙◌, sym, lit<}
-use Rattle.migrate_seq.proofs.Schemas.{length_is, first_key, first_value, second_key, second_value, there_at, not_a_map, schema_found}
+use Rattle.migrate_seq.proofs.SerializedLemmas.{length_is, first_key, first_value, second_key, second_value, there_at, not_a_map, schema_found}
 use Rattle.migrate_seq.proofs.serialized.sequences_in.Goals as goal
 
 pub returns-then-len-ne2-clause-none : goal.returns-then-len-ne2-clause-none

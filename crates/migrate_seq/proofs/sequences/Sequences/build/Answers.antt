@@ -1,9 +1,10 @@
 use Rattle.std.proofs.Common.{◌∙◌, sym, ap, length}
-use Rattle.std.specs.Prelude.{nat_eq}
+use Rattle.std.specs.Prelude.{nat_eq, count_by}
 use Rattle.migrate_seq.specs.Builds.{have_rising_ids, doubled}
 use Rattle.migrate_seq.specs.Order.{never_taken}
 use Rattle.migrate_seq.specs.Plans.{can_all_scale, follows, places_of}
-use Rattle.migrate_seq.proofs.Sorts.{all-by_id, rising-by_id}
+use Rattle.migrate_seq.proofs.Counts.{count-by_id}
+use Rattle.migrate_seq.proofs.BuildLemmas.{all-by_id, rising-by_id}
 use Rattle.migrate_seq.proofs.sequences.Sequences.build.Goals as goal
 
 pub invariant_of-result : goal.invariant_of-result
@@ -19,3 +20,6 @@ invariant_of-result c =
 pub returns-clause-rising : goal.returns-clause-rising
 returns-clause-rising c =
     ap have_rising_ids c.in_ok-sequences.ensures ∙ rising-by_id c.args.list.items (ap doubled (sym c.deref-3.ensures.value) ∙ sym c.in_default-doubled.ensures)
+
+pub returns-clause-same : goal.returns-clause-same
+returns-clause-same c test = ap (count_by test) c.in_ok-sequences.ensures ∙ count-by_id test c.args.list.items

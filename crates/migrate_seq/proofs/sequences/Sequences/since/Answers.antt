@@ -1,9 +1,8 @@
 use Rattle.std.proofs.Common.{subst, sym, ap, ◌∙◌}
-use Rattle.migrate_seq.specs.Plans.{IsPlan, is_acyclic}
+use Rattle.migrate_seq.specs.Plans.{IsPlan, is_acyclic, follows}
 use Rattle.migrate_seq.specs.Order.{in_order}
-use Rattle.migrate_seq.specs.Plans.{follows}
 use Rattle.migrate_seq.specs.Shown.{places_in}
-use Rattle.migrate_seq.proofs.Seats.{plan_holds, one_plan}
+use Rattle.migrate_seq.proofs.PlanLemmas.{plan_holds, one_plan}
 use Rattle.migrate_seq.proofs.sequences.Sequences.since.Goals as goal
 
 pub returns-clause-order : goal.returns-clause-order

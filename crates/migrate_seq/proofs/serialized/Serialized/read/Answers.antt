@@ -1,6 +1,6 @@
 use Rattle.std.proofs.Common.{sym, ap, ◌∙◌}
 use Rattle.migrate_seq.specs.Versions.{are_numbers, numbers_of, versions_in, schema_with}
-use Rattle.migrate_seq.proofs.Schemas.{numbers_of-versions_in, are_numbers-numbers_of, same_schemas}
+use Rattle.migrate_seq.proofs.SerializedLemmas.{numbers_of-versions_in, are_numbers-numbers_of, same_schemas}
 use Rattle.migrate_seq.proofs.serialized.Serialized.read.Goals as goal
 
 pub returns-in_ok-versions-in-Some-clause-found : goal.returns-in_ok-versions-in-Some-clause-found

@@ -1,6 +1,6 @@
 use Rattle.std.proofs.Common.{sym, ap, ◌∙◌}
 use Rattle.migrate_seq.specs.Versions.{numbers_of, schema_with}
-use Rattle.migrate_seq.proofs.Schemas.{schema_made, numbers_of-versions_in}
+use Rattle.migrate_seq.proofs.SerializedLemmas.{schema_made, numbers_of-versions_in}
 use Rattle.migrate_seq.proofs.serialized.Serialized.val.Goals as goal
 
 pub returns : goal.returns

@@ -13,7 +13,7 @@ use Rattle.migrate_seq.specs.Order.{first_some}
 use Rattle.migrate_seq.specs.Plans.{comes_before, places_from, missing_from, missing, places_of, first_missing, migration_at, follows, is_acyclic, can_all_scale, plan_of, IsPlan, refusal}
 use Rattle.migrate_seq.specs.Steps.{can_scale}
 use Rattle.migrate_seq.specs.Versions.{Versions}
-use Rattle.migrate_seq.proofs.Orders.{count, count-append, both_true, is_rising, IsWithin, all_taken, order_holds, one_order}
+use Rattle.migrate_seq.proofs.OrderLemmas.{count, count-append, both_true, is_rising, IsWithin, all_taken, order_holds, one_order}
 
 pub not_before_itself : (a : Place) → comes_before a a ≡ false
 not_before_itself a = grind (arith, nat_tests)

@@ -12,7 +12,7 @@ use Rattle.std.proofs.Math.ListN.{drop_of_length-le}
 use Rattle.std.proofs.Math.Seq.{take-suc, drop-cons}
 use Rattle.migrate_seq.specs.declared.migration.Sequence.{Sequence}
 use Rattle.migrate_seq.specs.Builds.{after_slash, inserted, by_id, doubled_after, doubled, have_rising_ids}
-use Rattle.migrate_seq.proofs.Orders.{both_true}
+use Rattle.migrate_seq.proofs.OrderLemmas.{both_true}
 
 none_after : (xs : List ℕ) (i : ℕ) → i < length xs → after_slash (drop i xs) [] ≡ None
 none_after [] i within = absurd (omega arith)

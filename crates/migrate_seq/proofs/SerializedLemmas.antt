@@ -1,16 +1,15 @@
 -- Versions and the maps of numbers that stand for them.
-use Rattle.std.proofs.Common.{◌≡◌, ℕ, pos, negsuc, Bool, true, false, ◌&&◌, cond, List, [], ◌∷◌, Some, None, option_map, unwrap_or, zero, suc, ◌<◌, length, Less, Equal, Greater, refl, sym, ap, ◌∙◌, arith}
+use Rattle.std.proofs.Common.{◌≡◌, ℕ, pos, negsuc, Bool, true, false, ◌&&◌, List, [], ◌∷◌, Some, None, unwrap_or, zero, suc, ◌<◌, length, Less, Equal, Greater, refl, sym, ap, ◌∙◌, arith}
 use Rattle.std.specs.Prelude.{codes, slice_get}
-use Rattle.std.specs.Ordering.{eq_by_cmp}
 use Rattle.std.specs.FinMap.Entries as entries
-use Rattle.rooms_val.specs.Data.{Data, null, boolean, whole, text, list, map, Pairs, members_of, pairs_of, Members, no_members, member}
-use Rattle.rooms_val.specs.Maps.{get, put}
+use Rattle.rooms_val.specs.Data.{Data, null, boolean, whole, text, list, map, Pairs, members_of, Members, no_members, member}
+use Rattle.rooms_val.specs.Kinds.{as_map}
+use Rattle.rooms_val.specs.Maps.{with_key, order}
 use Rattle.rooms_val.specs.View.{data_of}
 use Rattle.rooms_val.specs.declared.val.Val.{Val}
 use Rattle.rooms_val.specs.declared.val.Val.TheVariants as val
-use Rattle.rooms_val.proofs.Places.{order}
-use Rattle.rooms_val.proofs.Views.{pairs_of-members_of}
-use Rattle.migrate_seq.specs.Versions.{Versions, version_in, with_version, numbers_of, number_in, versions_in, is_number, are_numbers, schema_pairs, schema_with}
+use Rattle.rooms_val.proofs.DataLemmas.{pairs_of-members_of}
+use Rattle.migrate_seq.specs.Versions.{Versions, numbers_of, number_in, versions_in, is_number, are_numbers, schema_pairs, schema_with}
 
 number-back : (d : Data) → is_number d ≡ true → whole (pos (number_in d)) ≡ d
 number-back (whole (pos n)) is = refl
@@ -36,37 +35,17 @@ pub are_numbers-numbers_of : (vs : Versions) → are_numbers (numbers_of vs) ≡
 are_numbers-numbers_of [] = refl
 are_numbers-numbers_of (v ∷ vs) = are_numbers-numbers_of vs
 
-pub version_in-versions_in : (ps : Pairs) (name : List ℕ) → version_in (versions_in ps) name ≡ option_map number_in (get ps name)
-version_in-versions_in [] name = refl
-version_in-versions_in (p ∷ ps) name = elim (eq_by_cmp order name p.0) as (λ b. cond b (Some (number_in p.1)) (version_in (versions_in ps) name) ≡ option_map number_in (cond b (Some p.1) (get ps name))) [
-  | true ↦ refl
-  | false ↦ version_in-versions_in ps name
-]
-
-pub versions_in-put : (ps : Pairs) (name : List ℕ) (d : Data) → versions_in (put ps name d) ≡ with_version (versions_in ps) name (number_in d)
-versions_in-put [] name d = refl
-versions_in-put (p ∷ ps) name d = elim (order name p.0) as (λ o. versions_in (entries.by_order o ((name, d) ∷ p ∷ ps) ((p.0, d) ∷ ps) (p ∷ put ps name d)) ≡ entries.by_order o ((name, number_in d) ∷ (p.0, number_in p.1) ∷ versions_in ps) ((p.0, number_in d) ∷ versions_in ps) ((p.0, number_in p.1) ∷ with_version (versions_in ps) name (number_in d))) [
-  | Less ↦ refl
-  | Equal ↦ refl
-  | Greater ↦ ap (λ rest. (p.0, number_in p.1) ∷ rest) (versions_in-put ps name d)
-]
-
-pub are_numbers-put : (ps : Pairs) (name : List ℕ) (n : ℕ) → are_numbers ps ≡ true → are_numbers (put ps name (whole (pos n))) ≡ true
+pub are_numbers-put : (ps : Pairs) (name : List ℕ) (n : ℕ) → are_numbers ps ≡ true → are_numbers (with_key ps name (whole (pos n))) ≡ true
 are_numbers-put [] name n are = refl
 are_numbers-put (p ∷ ps) name n are = let each = both_true (is_number p.1) (are_numbers ps) are in
-    elim (order name p.0) as (λ o. are_numbers (entries.by_order o ((name, whole (pos n)) ∷ p ∷ ps) ((p.0, whole (pos n)) ∷ ps) (p ∷ put ps name (whole (pos n)))) ≡ true) [
+    elim (order name p.0) as (λ o. are_numbers (entries.by_order o ((name, whole (pos n)) ∷ p ∷ ps) ((p.0, whole (pos n)) ∷ ps) (p ∷ with_key ps name (whole (pos n)))) ≡ true) [
       | Less ↦ are
       | Equal ↦ each.1
       | Greater ↦ λ i. each.0 i && are_numbers-put ps name n each.1 i
     ]
 
 pairs_in : Data → Pairs
-pairs_in null = []
-pairs_in (boolean b) = []
-pairs_in (whole z) = []
-pairs_in (text s) = []
-pairs_in (list ds) = []
-pairs_in (map ms) = pairs_of ms
+pairs_in d = unwrap_or (as_map d) []
 
 -- what a value that stands for a schema has as its map
 pub fields_are : (v : Val) (fields ps : Pairs) → v ≡ val.Map fields → data_of v ≡ schema_with ps → fields ≡ schema_pairs ps
@@ -75,11 +54,11 @@ fields_are v fields ps is stands =
     sym (pairs_of-members_of fields) ∙ ap (λ w. pairs_in (data_of w)) (sym is) ∙ ap pairs_in stands ∙ pairs_of-members_of (schema_pairs ps)
 
 pub schema_made : (key name : List ℕ) (empty first second copied ps : Pairs) → key ≡ codes "schemaVersion" → name ≡ codes "sequences" → empty ≡ []
-    → first ≡ put empty key (whole (pos 2)) → copied ≡ ps → second ≡ put first name (map (members_of copied)) → map (members_of second) ≡ schema_with ps
+    → first ≡ with_key empty key (whole (pos 2)) → copied ≡ ps → second ≡ with_key first name (map (members_of copied)) → map (members_of second) ≡ schema_with ps
 schema_made key name empty first second copied ps key_is name_is empty_is first_is copied_is second_is =
     ap (λ qs. map (members_of qs)) second_is
-    ∙ (λ i. map (members_of (put (first_is i) (name_is i) (map (members_of (copied_is i))))))
-    ∙ (λ i. map (members_of (put (put (empty_is i) (key_is i) (whole (pos 2))) (codes "sequences") (map (members_of ps)))))
+    ∙ (λ i. map (members_of (with_key (first_is i) (name_is i) (map (members_of (copied_is i))))))
+    ∙ (λ i. map (members_of (with_key (with_key (empty_is i) (key_is i) (whole (pos 2))) (codes "sequences") (map (members_of ps)))))
 
 two_pairs : (ps : Pairs) (a b : List ℕ × Data) → length ps ≡ 2 → Some a ≡ slice_get ps 0 → Some b ≡ slice_get ps 1 → ps ≡ a ∷ b ∷ []
 two_pairs [] a b two first second = absurd (omega arith)
