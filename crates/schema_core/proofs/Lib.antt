@@ -1,2 +1,2 @@
-pub mod Rows
-pub mod Admission
+pub mod NamesLemmas
+pub mod AdmitsLemmas

@@ -1,34 +1,39 @@
 -- Which records are admitted under which ids, and what keeps the others from it.
-use Rattle.std.specs.Prelude.{◌≡◌, ◌≤◌, ℕ, nat_le, List, [], ◌∷◌, Bool, ◌&&◌, if◌then◌else◌, Option, Some, None, option_map, option_and_then, Result, Ok, Err, is_ok, IsSomeAnd, codes}
+use Rattle.std.specs.Prelude.{◌≡◌, ◌≤◌, ℕ, nat_le, List, [], ◌∷◌, Bool, true, false, ◌&&◌, if◌then◌else◌, Option, Some, None, option_map, option_and_then, Result, Ok, Err, is_ok, IsSomeAnd, codes}
 use Rattle.std.specs.Result.{result_err}
 use Rattle.std.specs.Option.{option_map_or}
-use Rattle.std.specs.Ordering.{nat_cmp}
-use Rattle.std.specs.Cmp.Lexicographic.{slice_cmp}
-use Rattle.std.specs.FinMap.Entries as entries
 use Rattle.rooms_val.specs.Data.{Data, text}
-use Rattle.rooms_val.specs.Maps.{field}
+use Rattle.rooms_val.specs.Kinds.{field, as_text}
+use Rattle.rooms_val.specs.Maps.{value_at}
 use Rattle.rooms_val.specs.Weight.{weight}
 use Rattle.record_valid.specs.Ids.{type_part, IsIdOf}
 use Rattle.record_valid.specs.Fits.{Fits}
-use Rattle.record_valid.specs.Parts.{as_text}
 use Rattle.record_valid.specs.Faults as check
 use Rattle.migrate_seq.specs.Records.{has_text}
-use Rattle.schema_core.specs.Tree.{TypeTree, Types, SchemaTree}
+use Rattle.schema_core.specs.Tree.{TypeTree, SchemaTree}
 use Rattle.schema_core.specs.declared.row.Scope.{Scope}
+use Rattle.schema_core.specs.declared.row.Scope.TheVariants.{Document, Session, Presence}
 use Rattle.schema_core.specs.declared.fault.RecordFault.{RecordFault}
 use Rattle.schema_core.specs.declared.fault.RecordFault.TheVariants.{BadId, UnknownType, Rejected, TooHeavy}
 
--- the type that has a name
-abbrev pub type_named : Types → List ℕ → Option TypeTree
-type_named types name = entries.find (slice_cmp nat_cmp) name types
-
 -- the type of the records under an id, and none where the text is no id of a known type
 abbrev pub type_of : SchemaTree → List ℕ → Option TypeTree
-type_of s id = option_and_then (type_named s.types) (type_part id)
+type_of s id = option_and_then (value_at s.types) (type_part id)
 
 -- the scope of the records under an id
 abbrev pub scope_of : SchemaTree → List ℕ → Option Scope
 scope_of s id = option_map (λ t. t.scope) (type_of s id)
+
+-- records of this scope make up the document
+abbrev pub is_of_document : Option Scope → Bool
+is_of_document None = false
+is_of_document (Some Document) = true
+is_of_document (Some Session) = false
+is_of_document (Some Presence) = false
+
+-- an id is one of the document's
+abbrev pub is_document : SchemaTree → List ℕ → Bool
+is_document s id = is_of_document (scope_of s id)
 
 -- the record's `id` is the id, and its `typeName` is this name
 abbrev pub has_id_and_type : List ℕ → List ℕ → Data → Bool
@@ -44,7 +49,7 @@ admission_by d t = option_map_or (λ reject. Err (Rejected reject)) (check.first
 
 -- the scope of a record that is admitted under an id, or the first of the four refusals
 abbrev pub admission : SchemaTree → List ℕ → Data → Result Scope RecordFault
-admission s id d = option_map_or (λ name. option_map_or (admission_by d) (type_named s.types name) (Err UnknownType)) (own_type id d) (Err BadId)
+admission s id d = option_map_or (λ name. option_map_or (admission_by d) (value_at s.types name) (Err UnknownType)) (own_type id d) (Err BadId)
 
 -- the first of the four refusals
 abbrev pub first_fault : SchemaTree → List ℕ → Data → Option RecordFault

@@ -1,11 +1,9 @@
 -- Which rows of types make a schema.
 use Rattle.std.specs.Prelude.{ℕ, List, [], ◌∷◌, ◌++◌, if◌then◌else◌, Option, Some, None, Result, Ok, Err, fold}
 use Rattle.std.specs.Option.{option_map_or}
-use Rattle.std.specs.Ordering.{nat_cmp}
-use Rattle.std.specs.Cmp.Lexicographic.{slice_cmp}
-use Rattle.std.specs.FinMap.Entries as entries
 use Rattle.migrate_seq.specs.declared.migration.Sequence.{Sequence}
-use Rattle.record_valid.specs.Parts.{keys_of, is_listed}
+use Rattle.rooms_val.specs.Maps.{with_key, keys_of}
+use Rattle.record_valid.specs.Parts.{is_listed}
 use Rattle.schema_core.specs.Tree.{Types, SchemaTree}
 use Rattle.schema_core.specs.declared.fault.SchemaFault.{SchemaFault}
 use Rattle.schema_core.specs.declared.fault.SchemaFault.TheVariants.{DoubledType}
@@ -20,7 +18,7 @@ doubled rows = doubled_after [] (keys_of rows)
 
 -- the types in the order of their names
 abbrev pub by_name : Types → Types
-by_name rows = fold (λ types r. entries.put (slice_cmp nat_cmp) r.0 r.1 types) [] rows
+by_name rows = fold (λ types r. with_key types r.0 r.1) [] rows
 
 -- the types in the order of their names, or the first name that stood before
 abbrev pub types_by_name : Types → Result Types SchemaFault

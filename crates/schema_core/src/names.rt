@@ -1,10 +1,7 @@
 //! Types in the order of their names.
-ghost use Rattle.std.specs.Prelude.{◌≡◌, IfOk, IfErr, IsTrue, T};
-ghost use Rattle.std.specs.Ordering.{nat_cmp};
-ghost use Rattle.std.specs.Cmp.Lexicographic.{slice_cmp};
-ghost use Rattle.std.specs.FinMap.Entries.{is_sorted};
+ghost use Rattle.std.specs.Prelude.{IfOk};
 ghost use Rattle.rooms_val.specs.Answers.{Gives};
-ghost use Rattle.rooms_val.specs.Places.{IsPlace, IsGap};
+ghost use Rattle.rooms_val.specs.Maps.{AreRising};
 ghost use Rattle.schema_core.specs.Builds.{types_by_name};
 ghost use Rattle.schema_core.specs.View.{rows_view, types_view};
 ghost use Rattle.schema_core.specs.declared.fault.SchemaFault.TheVariants as schema_fault;
@@ -12,16 +9,8 @@ ghost use Rattle.schema_core.specs.declared.fault.SchemaFault.TheVariants as sch
 use crate::fault::SchemaFault;
 use crate::row::{RecordType, TypeRow};
 use rooms_val::Text;
+use rooms_val::entries::place_of;
 use std::alloc::Global;
-
-// Where the name stands, or where it would go.
-pub(crate) fn place_of(types: &[(Text, RecordType)], name: &str) -> Result<usize, usize>
-    requires { T (is_sorted (slice_cmp nat_cmp) types.now) }
-    ensures found { IfOk result (IsPlace types.now name.now) }
-    ensures absent { IfErr result (IsGap types.now name.now) }
-{
-    types.binary_search_by(|entry| entry.0.as_str().cmp(&name))
-}
 
 // The types of some rows in the order of their names, or the first name that stood before.
 pub(crate) fn by_name(
@@ -29,7 +18,7 @@ pub(crate) fn by_name(
     rows: Vec<TypeRow>,
 ) -> Result<Vec<(Text, RecordType)>, SchemaFault>
     ensures answer { Gives schema_fault.OutOfMemory (λ types. types_view types.items) result (types_by_name (rows_view rows.items)) }
-    ensures rising { IfOk result (λ types. IsTrue (is_sorted (slice_cmp nat_cmp) types.items)) }
+    ensures rising { IfOk result (λ types. AreRising types.items) }
 {
     let mut types = Vec::new(alloc);
     'rows: for row in rows {

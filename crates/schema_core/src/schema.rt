@@ -1,10 +1,8 @@
 //! Which records are admitted.
-ghost use Rattle.std.specs.Prelude.{◌≡◌, ◌↔◌, IsOk, IsTrue, option_map};
-ghost use Rattle.std.specs.Ordering.{nat_cmp};
-ghost use Rattle.std.specs.Cmp.Lexicographic.{slice_cmp};
-ghost use Rattle.std.specs.FinMap.Entries.{is_sorted};
+ghost use Rattle.std.specs.Prelude.{◌≡◌, ◌↔◌, IsOk, option_map};
 ghost use Rattle.rooms_val.specs.Answers.{Gives};
-ghost use Rattle.rooms_val.specs.Maps.{field};
+ghost use Rattle.rooms_val.specs.Kinds.{field};
+ghost use Rattle.rooms_val.specs.Maps.{AreRising};
 ghost use Rattle.rooms_val.specs.View.{data_of};
 ghost use Rattle.migrate_seq.specs.SequencesOf.{sequences_of};
 ghost use Rattle.migrate_seq.specs.Records.{has_text};
@@ -12,12 +10,12 @@ ghost use Rattle.schema_core.specs.Admits.{own_type};
 ghost use Rattle.schema_core.specs.declared.fault.SchemaFault.TheVariants as schema_fault;
 
 use crate::fault::{RecordFault, SchemaFault};
-use crate::names::{by_name, place_of};
+use crate::names::by_name;
 use crate::row::{RecordType, Scope, TypeRow};
 use migrate_seq::Sequences;
+use record_valid::fits::check;
 use record_valid::id_type;
-use record_valid::valid::check;
-use rooms_val::{Text, Val};
+use rooms_val::{Text, Val, entries};
 use std::alloc::Global;
 
 /// The greatest weight of a record that is admitted.
@@ -28,11 +26,12 @@ const GREATEST_WEIGHT: u64 = 32_768;
 pub struct Schema {
     types: Vec<(Text, RecordType)>,
     sequences: Sequences,
-    ghost rising: { IsTrue (is_sorted (slice_cmp nat_cmp) types.items) },
+    ghost rising: { AreRising types.items },
 }
 
 impl Schema {
-    ghost use Rattle.schema_core.specs.Admits.{IsAdmitted, admission, scope_of, type_named};
+    ghost use Rattle.schema_core.specs.Admits.{IsAdmitted, admission, is_document, scope_of};
+    ghost use Rattle.rooms_val.specs.Maps.{value_at};
     ghost use Rattle.schema_core.specs.Builds.{built};
     ghost use Rattle.schema_core.specs.SchemaOf.{schema_tree};
     ghost use Rattle.schema_core.specs.View.{rows_view, type_tree};
@@ -81,6 +80,19 @@ impl Schema {
         Some(found.scope)
     }
 
+    /// Whether the records under an id make up the document, which is so exactly where their scope is that of documents.
+    /// It costs what `scope_of` does.
+    pub fn is_document(&self, id: &str) -> bool
+        ensures { result ≡ is_document (schema_tree self.now) id.now }
+    {
+        match self.scope_of(id) {
+            Some(Scope::Document) => true,
+            Some(Scope::Session) => false,
+            Some(Scope::Presence) => false,
+            None => false,
+        }
+    }
+
     /// The sequences of migrations.
     pub fn sequences(&self) -> &Sequences
         ensures { sequences_of result.now ≡ (schema_tree self.now).sequences }
@@ -90,12 +102,9 @@ impl Schema {
 
     // The type that has the name.
     fn type_named(&self, name: &str) -> Option<&RecordType>
-        ensures { option_map (λ t. type_tree t.now) result ≡ type_named (schema_tree self.now).types name.now }
+        ensures { option_map (λ t. type_tree t.now) result ≡ value_at (schema_tree self.now).types name.now }
     {
-        match place_of(&self.types, name) {
-            Ok(place) => Some(&self.types[place].1),
-            Err(_) => None,
-        }
+        entries::get(&self.types, name)
     }
 }
 

@@ -1,17 +1,16 @@
-use Rattle.std.proofs.Common.{T, Ok, Err, ap, sym, subst, ◌∙◌, rules}
+use Rattle.std.proofs.Common.{Ok, Err, ap, sym, subst, ◌∙◌, rules}
 use Rattle.std.specs.Option.{option_map_or}
-use Rattle.std.specs.FinMap.Entries.{put, is_sorted, is_sorted-put}
-use Rattle.std.proofs.lemmas.Cmp.{nat_list_cmp_total}
 use Rattle.std.proofs.lemmas.Iterator.Adapters.{YieldsList-from_vec}
 use Rattle.std.proofs.lemmas.Iterator.Consumers.{YieldsList-turn}
 use Rattle.rooms_val.specs.Places.{IsPlace, IsGap}
-use Rattle.rooms_val.proofs.Places.{order}
-use Rattle.record_valid.proofs.ForRoomsVal.{view-put, insert_is}
+use Rattle.rooms_val.specs.Maps.{AreRising, with_key}
+use Rattle.rooms_val.proofs.MapsLemmas.{rising-with_key, seen-with_key}
+use Rattle.rooms_val.proofs.PlacesLemmas.{put_in_gap}
 use Rattle.schema_core.specs.Builds.{by_name}
 use Rattle.schema_core.specs.View.{type_tree, types_view, rows_view}
 use Rattle.schema_core.specs.declared.row.RecordType.{RecordType}
 use Rattle.schema_core.specs.declared.fault.SchemaFault.TheVariants as schema_fault
-use Rattle.schema_core.proofs.Rows.{holds, true_from, by_name-push, listed_at_place, listed_in_gap, doubled_here, doubled_later}
+use Rattle.schema_core.proofs.NamesLemmas.{by_name-push, listed_at_place, listed_in_gap, doubled_here, doubled_later}
 use Rattle.schema_core.proofs.names.by_name.Goals as goal
 
 pub returns-in-Ok-clause-answer : goal.returns-in-Ok-clause-answer
@@ -32,10 +31,10 @@ rows-preserved c =
     let turn = YieldsList-turn (YieldsList-from_vec {s = c.into_iter-row-iterator.result} all (search rules) (search rules)) c.rows.yielded _ c.rows.yielded_by _ c.next.new.self r c.in-Some.is c.next.ensures.steps in
     let es = c.rows.types.items in
     let at = subst (λ k. IsGap c.deref.result.now k c.in-Err.place) c.as_str.ensures.bytes c.in-Err.ensures.absent in
-    let edited = c.in_ok-insert-in-Err.ensures.items ∙ insert_is es _ r.name _ c.deref.ensures.value kept at in
+    let edited = c.in_ok-insert-in-Err.ensures.items ∙ sym (put_in_gap es r.name kept c.in-Err.place (subst (λ s. IsGap s r.name c.in-Err.place) c.deref.ensures.value at)) in
     let none = listed_in_gap es c.rows.yielded c.rows.invariant.so_far r.name c.in-Err.place (subst (λ s. IsGap s r.name c.in-Err.place) c.deref.ensures.value at) in
     record {
-      rising = true_from _ (subst (λ ts. T (is_sorted order ts)) (sym edited) (is_sorted-put order nat_list_cmp_total r.name kept es (holds _ c.rows.invariant.rising)));
-      so_far = ap types_view edited ∙ view-put type_tree es r.name kept ∙ ap (λ ts. put order r.name (type_tree kept) ts) c.rows.invariant.so_far ∙ sym (by_name-push c.rows.yielded r);
+      rising = subst AreRising (sym edited) (rising-with_key es r.name kept c.rows.invariant.rising);
+      so_far = ap types_view edited ∙ seen-with_key type_tree es r.name kept ∙ ap (λ ts. with_key ts r.name (type_tree kept)) c.rows.invariant.so_far ∙ sym (by_name-push c.rows.yielded r);
       none = c.rows.invariant.none ∙ doubled_later all c.rows.yielded r turn.0 turn.1 none;
     }

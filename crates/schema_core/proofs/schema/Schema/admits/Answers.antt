@@ -3,7 +3,7 @@ use Rattle.std.specs.Prelude.{◌↔◌}
 use Rattle.rooms_val.specs.View.{data_of}
 use Rattle.schema_core.specs.Admits.{admission, IsAdmitted}
 use Rattle.schema_core.specs.SchemaOf.{schema_tree}
-use Rattle.schema_core.proofs.Admission.{law}
+use Rattle.schema_core.proofs.AdmitsLemmas.{law}
 use Rattle.schema_core.proofs.schema.Schema.admits.Goals as goal
 
 pub returns-clause-admitted : goal.returns-clause-admitted

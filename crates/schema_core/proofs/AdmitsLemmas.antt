@@ -5,17 +5,17 @@ use Rattle.std.specs.Option.{option_map_or}
 use Rattle.std.proofs.lemmas.Bool.{leb-true, le-leb}
 use Rattle.std.proofs.lemmas.Slice.Eq.{bytes_eq-Decides}
 use Rattle.rooms_val.specs.Data.{Data, null, boolean, whole, text, list, map}
-use Rattle.rooms_val.specs.Maps.{field}
+use Rattle.rooms_val.specs.Kinds.{field, as_text}
 use Rattle.rooms_val.specs.Weight.{weight}
 use Rattle.record_valid.specs.Ids.{type_part}
 use Rattle.record_valid.specs.Fits.{Fits}
 use Rattle.record_valid.specs.Faults as check
-use Rattle.record_valid.specs.Parts.{as_text}
 use Rattle.record_valid.specs.declared.reject.Reject.{Reject}
-use Rattle.record_valid.proofs.Law as checks
+use Rattle.record_valid.proofs.FitsLemmas as checks
 use Rattle.migrate_seq.specs.Records.{has_text}
 use Rattle.schema_core.specs.Tree.{TypeTree, SchemaTree}
-use Rattle.schema_core.specs.Admits.{type_named, admission_by, admission, IsAdmitted}
+use Rattle.rooms_val.specs.Maps.{value_at}
+use Rattle.schema_core.specs.Admits.{admission_by, admission, IsAdmitted}
 use Rattle.schema_core.specs.declared.row.Scope.{Scope}
 use Rattle.schema_core.specs.declared.fault.RecordFault.TheVariants.{BadId, UnknownType, Rejected, TooHeavy}
 
@@ -83,7 +83,7 @@ module _ (id : List ℕ) (d : Data) (look : List ℕ → Option TypeTree) where
 
 pub law : (s : SchemaTree) (id : List ℕ) (d : Data) → (is_ok (admission s id d) ≡ true) ↔ IsAdmitted s id d
 law s id d =
-    let found = found_law id d (type_named s.types) (type_part id) (field d (codes "id")) (field d (codes "typeName")) in (
+    let found = found_law id d (value_at s.types) (type_part id) (field d (codes "id")) (field d (codes "typeName")) in (
       λ h. let facts = found.0 h in record { own = facts.0; typed = facts.1; fits = facts.2; light = facts.3 },
       λ a. found.1 (a.own, a.typed, a.fits, a.light),
     )

@@ -1,42 +1,29 @@
 -- The types of some rows by their names, and the first name that stood before.
-use Rattle.std.proofs.Common.{◌≡◌, ℕ, suc, ◌<◌, Bool, true, false, ◌||◌, cond, T, List, [], ◌∷◌, ◌++◌, length, get_or, drop, fold, Option, Some, option_map, is_some, Ordering, Less, Equal, Greater, is_eq, refl, sym, ap, ◌∙◌, add-one}
-use Rattle.std.specs.Prelude.{IsTrue}
-use Rattle.std.specs.Ordering.{eq_by_cmp, ordering_reverse}
+use Rattle.std.proofs.Common.{◌≡◌, ℕ, suc, ◌<◌, Bool, true, false, ◌||◌, cond, List, [], ◌∷◌, ◌++◌, length, get_or, drop, fold, Option, Some, option_map, is_some, is_eq, refl, sym, ap, ◌∙◌, add-one}
+use Rattle.std.specs.Ordering.{eq_by_cmp}
 use Rattle.std.specs.Str.{bytes_eq}
-use Rattle.std.specs.FinMap.Entries.{put, find, find-put}
+use Rattle.std.specs.FinMap.Entries.{find, find-put}
 use Rattle.std.proofs.lemmas.Cmp.{nat_list_cmp_total}
 use Rattle.std.proofs.lemmas.List.{map-append, length_push}
 use Rattle.std.proofs.lemmas.List.Sums.{fold-append}
 use Rattle.std.proofs.lemmas.Map.Text.{is_eq-slice_cmp}
 use Rattle.std.proofs.Math.Seq.{drop-cons}
-use Rattle.rooms_val.proofs.Places.{order, find_at_place, find_in_gap}
+use Rattle.rooms_val.specs.Maps.{order, with_key, keys_of}
+use Rattle.rooms_val.proofs.PlacesLemmas.{find_at_place, find_in_gap}
 use Rattle.rooms_val.specs.Places.{IsPlace, IsGap}
-use Rattle.record_valid.specs.Parts.{keys_of, is_listed}
-use Rattle.record_valid.proofs.ForRoomsVal.{find-view}
+use Rattle.record_valid.specs.Parts.{is_listed}
+use Rattle.rooms_val.proofs.MapsLemmas.{at-seen, is_eq-reverse}
 use Rattle.schema_core.specs.Tree.{TypeTree, Types}
 use Rattle.schema_core.specs.View.{type_tree, types_view, row_tree, rows_view}
 use Rattle.schema_core.specs.Builds.{doubled_after, by_name}
 use Rattle.schema_core.specs.declared.row.RecordType.{RecordType}
 use Rattle.schema_core.specs.declared.row.TypeRow.{TypeRow}
 
-pub holds : (b : Bool) → IsTrue b → T b
-holds true h = tt
-holds false h = (cc)
-
-pub true_from : (b : Bool) → T b → IsTrue b
-true_from true h = refl
-true_from false h = absurd h
-
-is_eq-reverse : (o : Ordering) → is_eq (ordering_reverse o) ≡ is_eq o
-is_eq-reverse Less = refl
-is_eq-reverse Equal = refl
-is_eq-reverse Greater = refl
-
 tied : (x y : List ℕ) → eq_by_cmp order x y ≡ bytes_eq y x
 tied x y = ap is_eq (nat_list_cmp_total.antisymm x y) ∙ is_eq-reverse (order y x) ∙ is_eq-slice_cmp y x
 
 abbrev with_row : Types → List ℕ × TypeTree → Types
-with_row types r = put order r.0 r.1 types
+with_row types r = with_key types r.0 r.1
 
 known_later : (a b : Bool) (v : TypeTree) (o : Option TypeTree) → (b || is_some (cond a (Some v) o)) ≡ ((a || b) || is_some o)
 known_later true true v o = refl
@@ -65,7 +52,7 @@ names-push : (rows : List TypeRow) (r : TypeRow) → names (rows ++ r ∷ []) �
 names-push [] r = refl
 names-push (x ∷ rows) r = ap (λ ns. x.name ∷ ns) (names-push rows r)
 
-pub by_name-push : (rows : List TypeRow) (r : TypeRow) → by_name (rows_view (rows ++ r ∷ [])) ≡ put order r.name (row_tree r).1 (by_name (rows_view rows))
+pub by_name-push : (rows : List TypeRow) (r : TypeRow) → by_name (rows_view (rows ++ r ∷ [])) ≡ with_key (by_name (rows_view rows)) r.name (row_tree r).1
 by_name-push rows r = ap by_name (map-append row_tree rows (r ∷ [])) ∙ fold-append with_row [] (rows_view rows) (row_tree r ∷ [])
 
 -- what is found among the entries of the rows so far
@@ -74,10 +61,10 @@ module _ (es : List (List ℕ × RecordType)) (rows : List TypeRow) (so_far : ty
   listed = sym (known rows name) ∙ ap (λ ts. is_some (find order name ts)) (sym so_far)
 
   pub listed_at_place : RecordType → IsPlace es name p → is_listed (names rows) name ≡ true
-  listed_at_place d at = listed ∙ ap is_some (find-view type_tree es name ∙ ap (λ o. option_map type_tree o) (find_at_place es name p (name, d) at))
+  listed_at_place d at = listed ∙ ap is_some (at-seen type_tree es name ∙ ap (λ o. option_map type_tree o) (find_at_place es name p (name, d) at))
 
   pub listed_in_gap : IsGap es name p → is_listed (names rows) name ≡ false
-  listed_in_gap at = listed ∙ ap is_some (find-view type_tree es name ∙ ap (λ o. option_map type_tree o) (find_in_gap es name p at))
+  listed_in_gap at = listed ∙ ap is_some (at-seen type_tree es name ∙ ap (λ o. option_map type_tree o) (find_in_gap es name p at))
 
 module _ (all rows : List TypeRow) (r : TypeRow) (within : length rows < length all) (is : r ≡ get_or all (length rows) r) where
   left : names (drop (length rows) all) ≡ r.name ∷ names (drop (suc (length rows)) all)
