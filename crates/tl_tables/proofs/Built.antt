@@ -1,7 +1,8 @@
 -- What is built of sequences, said of what they stand for.
-use Rattle.std.proofs.Common.{◌≡◌, ℕ, Bool, true, false, ◌&&◌, cond, List, [], ◌∷◌, map, filter, fold, Option, Some, None, Ok, Err, refl, sym, ap, ◌∙◌}
-use Rattle.std.specs.Prelude.{nat_le}
+use Rattle.std.proofs.Common.{◌≡◌, ℕ, Bool, true, false, not, ◌&&◌, cond, List, [], ◌∷◌, map, filter, fold, length, Option, Some, None, Ok, Err, refl, sym, ap, subst, ◌∙◌}
+use Rattle.std.specs.Prelude.{nat_le, nat_eq, codes}
 use Rattle.std.specs.List.{list_all}
+use Rattle.std.proofs.lemmas.List.{length-map}
 use Rattle.std.specs.Ordering.{nat_cmp, is_lt}
 use Rattle.std.specs.Cmp.Lexicographic.{slice_cmp}
 use Rattle.migrate_seq.specs.declared.migration.Sequence.{Sequence}
@@ -14,7 +15,7 @@ use Rattle.migrate_seq.specs.Builds.{inserted, by_id, ids_at, gap, bad_id, doubl
 use Rattle.migrate_seq.specs.declared.fault.SeqFault.{SeqFault}
 use Rattle.migrate_seq.specs.declared.fault.SeqFault.TheVariants.{Gap, BadId, Doubled, UnknownDependency, Cycle}
 use Rattle.tl_tables.specs.Trees.{StepTree, MigrationTree, SequenceTree, step_tree, migration_tree, sequence_tree, add, remove, rename, map_enum, scale, nest, unnest}
-use Rattle.tl_tables.specs.Migrations.{present, base_1, shape_1, shape_2, binding_1, sequence_at, base, binding, shape, sequences}
+use Rattle.tl_tables.specs.Migrations.{has_migrations, base_1, shape_1, shape_2, binding_1, sequence_at, base, binding, shape, sequences}
 
 -- a factor is at least 2
 abbrev pub scales : StepTree → Bool
@@ -48,30 +49,40 @@ sequence_scales s = list_all migration_scales s.migrations
 pub all_scale : (list : List Sequence) → can_all_scale list ≡ list_all sequence_scales (map sequence_tree list)
 all_scale list = all_seen sequence_tree _ sequence_scales (λ s. all_seen migration_tree _ migration_scales (λ m. all_seen step_tree can_scale scales scales_step m.steps.items) s.migrations.items) list
 
-kept_scale : (version : ℕ) (rows : List (ℕ × MigrationTree)) → list_all (λ r. migration_scales r.1) rows ≡ true → list_all migration_scales (present version rows) ≡ true
-kept_scale version [] each = refl
-kept_scale version (r ∷ rows) each = elim (nat_le r.0 version) as (λ b. list_all migration_scales (map (λ m. m.1) (cond b (r ∷ filter (λ m. nat_le m.0 version) rows) (filter (λ m. nat_le m.0 version) rows))) ≡ true) [
-  | true ↦ λ i. first (migration_scales r.1) rest each i && kept_scale version rows (second (migration_scales r.1) rest each) i
-  | false ↦ kept_scale version rows (second (migration_scales r.1) rest each)
-]
-  where
-    rest : Bool
-    rest = list_all (λ m. migration_scales m.1) rows
+abbrev kept : List (ℕ × MigrationTree) → List MigrationTree
+kept rows = map (λ m. m.1) rows
 
-    first : (a b : Bool) → (a && b) ≡ true → a ≡ true
-    first true b h = refl
-    first false b h = (cc)
+-- the sequences by whether a version is at least 1, 2 and 3
+abbrev pub tables : Bool → Bool → Bool → List SequenceTree
+tables one two three = filter has_migrations (
+    record { id = codes "rooms.base"; retroactive = true; migrations = kept (cond one ((1, base_1) ∷ []) []) }
+    ∷ record { id = codes "rooms.binding"; retroactive = true; migrations = kept (cond three ((3, binding_1) ∷ []) []) }
+    ∷ record { id = codes "rooms.shape"; retroactive = true; migrations = kept (cond two ((2, shape_1) ∷ cond three ((3, shape_2) ∷ []) []) (cond three ((3, shape_2) ∷ []) [])) }
+    ∷ []
+    )
 
-    second : (a b : Bool) → (a && b) ≡ true → b ≡ true
-    second true b h = h
-    second false b h = (cc)
+pub sequences-tables : (version : ℕ) → sequences version ≡ tables (nat_le 1 version) (nat_le 2 version) (nat_le 3 version)
+unfolding sequences base binding shape sequence_at
+sequences-tables version = refl
+
+-- what holds of the tables at each version
+by_version : (P : List SequenceTree → Type 0) → ((one two three : Bool) → P (tables one two three)) → (version : ℕ) → P (sequences version)
+by_version P each version = subst P (sym (sequences-tables version)) (each (nat_le 1 version) (nat_le 2 version) (nat_le 3 version))
+
+all_scaled : (one two three : Bool) → list_all sequence_scales (tables one two three) ≡ true
+unfolding base_1 shape_1 shape_2 binding_1
+all_scaled true true true = refl
+all_scaled true true false = refl
+all_scaled true false true = refl
+all_scaled true false false = refl
+all_scaled false true true = refl
+all_scaled false true false = refl
+all_scaled false false true = refl
+all_scaled false false false = refl
 
 -- each factor in the tables is at least 2
 pub tables_scale : (version : ℕ) → list_all sequence_scales (sequences version) ≡ true
-unfolding sequences base binding shape sequence_at base_1 shape_1 shape_2 binding_1
-tables_scale version = λ i.
-    kept_scale version ((1, base_1) ∷ []) refl i
-    && (kept_scale version ((3, binding_1) ∷ []) refl i && (kept_scale version ((2, shape_1) ∷ (3, shape_2) ∷ []) refl i && true))
+tables_scale = by_version (λ ts. list_all sequence_scales ts ≡ true) all_scaled
 
 -- a sequence in its place
 abbrev placed : SequenceTree → List SequenceTree → List SequenceTree
@@ -89,10 +100,19 @@ sorted_from : (list sorted : List Sequence) → map sequence_tree (fold (λ ts s
 sorted_from [] sorted = refl
 sorted_from (s ∷ list) sorted = sorted_from list (inserted s sorted) ∙ ap (λ ts. fold (λ us t. placed t us) ts (map sequence_tree list)) (inserted_seen s sorted)
 
+all_in_order : (one two three : Bool) → fold (λ ts s. placed s ts) [] (tables one two three) ≡ tables one two three
+all_in_order true true true = refl
+all_in_order true true false = refl
+all_in_order true false true = refl
+all_in_order true false false = refl
+all_in_order false true true = refl
+all_in_order false true false = refl
+all_in_order false false true = refl
+all_in_order false false false = refl
+
 -- the sequences of the tables stand in the order of their ids
 in_order : (version : ℕ) → fold (λ ts s. placed s ts) [] (sequences version) ≡ sequences version
-unfolding sequences base binding shape sequence_at
-in_order version = refl
+in_order = by_version (λ ts. fold (λ us s. placed s us) [] ts ≡ ts) all_in_order
 
 sorted : (version : ℕ) (list : List Sequence) → map sequence_tree list ≡ sequences version → map sequence_tree (by_id list) ≡ sequences version
 sorted version list is = sorted_from list [] ∙ ap (fold (λ ts s. placed s ts) []) is ∙ in_order version
@@ -113,8 +133,24 @@ built_is version list seqs seen is =
     let left = Cycle (ids_at by (never_taken (follows by) (places_of 0 by))) in
     ap (map sequence_tree) (sym (only_sorted (gap list) (bad_id list) (doubled list) (unknown list) (is_acyclic by) left by seqs is)) ∙ sorted version list seen
 
--- a list of what stands for each sequence of the tables
-pub seen : (version : ℕ) (list : List Sequence) (b n s : Sequence) → list ≡ b ∷ n ∷ s ∷ [] → sequence_tree b ≡ base version → sequence_tree n ≡ binding version → sequence_tree s ≡ shape version
-    → map sequence_tree list ≡ sequences version
+filtered_seen : (p : Sequence → Bool) → ((s : Sequence) → p s ≡ has_migrations (sequence_tree s)) → (list : List Sequence) → map sequence_tree (filter p list) ≡ filter has_migrations (map sequence_tree list)
+filtered_seen p is [] = refl
+filtered_seen p is (s ∷ list) =
+    ap (λ b. map sequence_tree (cond b (s ∷ filter p list) (filter p list))) (is s)
+    ∙ elim (has_migrations (sequence_tree s)) as (λ b. map sequence_tree (cond b (s ∷ filter p list) (filter p list)) ≡ cond b (sequence_tree s ∷ filter has_migrations (map sequence_tree list)) (filter has_migrations (map sequence_tree list))) [
+      | true ↦ ap (λ rest. sequence_tree s ∷ rest) (filtered_seen p is list)
+      | false ↦ filtered_seen p is list
+    ]
+
+-- whether a vector of migrations has one
+abbrev pub is_filled : Sequence → Bool
+is_filled s = not (nat_eq s.migrations.len 0)
+
+pub filled_seen : (list : List Sequence) → map sequence_tree (filter is_filled list) ≡ filter has_migrations (map sequence_tree list)
+filled_seen = filtered_seen is_filled (λ s. ap (λ n. not (nat_eq n 0)) (s.migrations.ok.0 ∙ sym (length-map s.migrations.items migration_tree)))
+
+-- a list of what stands for each sequence of the tables that has migrations
+pub seen : (version : ℕ) (list kept : List Sequence) (b n s : Sequence) → list ≡ b ∷ n ∷ s ∷ [] → sequence_tree b ≡ base version → sequence_tree n ≡ binding version → sequence_tree s ≡ shape version
+    → map sequence_tree kept ≡ filter has_migrations (map sequence_tree list) → map sequence_tree kept ≡ sequences version
 unfolding sequences
-seen version list b n s is first second third = ap (map sequence_tree) is ∙ λ i. first i ∷ second i ∷ third i ∷ []
+seen version list kept b n s is first second third left = left ∙ ap (λ l. filter has_migrations (map sequence_tree l)) is ∙ λ i. filter has_migrations (first i ∷ second i ∷ third i ∷ [])

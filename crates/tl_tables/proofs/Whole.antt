@@ -9,7 +9,8 @@ use Rattle.migrate_seq.specs.declared.migration.Migration.{Migration}
 use Rattle.migrate_seq.specs.declared.migration.Sequence.{Sequence}
 use Rattle.migrate_seq.specs.Builds.{built}
 use Rattle.tl_tables.specs.Trees.{MigrationTree, SequenceTree, migration_tree, sequence_tree}
-use Rattle.tl_tables.specs.Migrations.{base_1, shape_1, shape_2, binding_1, sequence_at, base, binding, shape, sequences}
+use Rattle.tl_tables.specs.Migrations.{base_1, shape_1, shape_2, binding_1, sequences}
+use Rattle.tl_tables.proofs.Built.{tables, sequences-tables}
 
 -- a vector whose items are written otherwise
 module _ {A Z : Type 0} (v : Vec A Z) where
@@ -84,17 +85,6 @@ sequence_again-is s t is =
 abbrev sequences_again : (ts : List SequenceTree) (list : List Sequence) → map sequence_tree list ≡ ts → List Sequence
 sequences_again = redone sequence_tree sequence_again sequence_again-is
 
-abbrev kept : List (ℕ × MigrationTree) → List MigrationTree
-kept rows = map (λ m. m.1) rows
-
--- the sequences by whether a version is at least 1, 2 and 3
-abbrev tables : Bool → Bool → Bool → List SequenceTree
-tables one two three =
-    record { id = codes "rooms.base"; retroactive = true; migrations = kept (cond one ((1, base_1) ∷ []) []) }
-    ∷ record { id = codes "rooms.binding"; retroactive = true; migrations = kept (cond three ((3, binding_1) ∷ []) []) }
-    ∷ record { id = codes "rooms.shape"; retroactive = true; migrations = kept (cond two ((2, shape_1) ∷ cond three ((3, shape_2) ∷ []) []) (cond three ((3, shape_2) ∷ []) [])) }
-    ∷ []
-
 again_fits : (one two three : Bool) → (three ≡ true → two ≡ true) → (list : List Sequence) (is : map sequence_tree list ≡ tables one two three)
     → is_ok (built (sequences_again (tables one two three) list is)) ≡ true
 unfolding base_1 shape_1 shape_2 binding_1
@@ -105,10 +95,6 @@ again_fits false true true rises list is = refl
 again_fits false true false rises list is = refl
 again_fits false false false rises list is = refl
 again_fits one false true rises list is = let no : false ≡ true = rises refl in (cc)
-
-sequences-tables : (version : ℕ) → sequences version ≡ tables (nat_le 1 version) (nat_le 2 version) (nat_le 3 version)
-unfolding sequences base binding shape sequence_at
-sequences-tables version = refl
 
 -- what stands for the tables' sequences can be built
 pub fits : (version : ℕ) (list : List Sequence) → map sequence_tree list ≡ sequences version → is_ok (built list) ≡ true

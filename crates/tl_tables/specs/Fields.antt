@@ -1,6 +1,7 @@
 -- Fields of maps, some of which are there at some versions alone.
 use Rattle.std.specs.Prelude.{ℕ, nat_le, List, [], ◌∷◌, if◌then◌else◌, fold, codes}
-use Rattle.record_valid.specs.Tree.{CheckTree, one_of, id_of, dict, object, by_type, Table, put, rows_of}
+use Rattle.record_valid.specs.Tree.{CheckTree, one_of, id_of, dict, object, by_type, Table, rows_of}
+use Rattle.rooms_val.specs.Maps.{with_key}
 use Rattle.schema_core.specs.Tree.{TypeTree}
 use Rattle.schema_core.specs.declared.row.Scope.{Scope}
 
@@ -12,9 +13,9 @@ pub data FieldTree : Type 0 where
 
 -- a table with a field, where the version has it
 unfoldable pub with_field : ℕ → Table → FieldTree → Table
-with_field version table (always name check) = put table name check
-with_field version table (since first name check) = if nat_le first version then put table name check else table
-with_field version table (until last name check) = if nat_le version last then put table name check else table
+with_field version table (always name check) = with_key table name check
+with_field version table (since first name check) = if nat_le first version then with_key table name check else table
+with_field version table (until last name check) = if nat_le version last then with_key table name check else table
 
 -- a table with those of some fields that the version has
 abbrev pub with_fields : ℕ → Table → List FieldTree → Table

@@ -1,5 +1,5 @@
 -- The migrations, in sequences.
-use Rattle.std.specs.Prelude.{ℕ, nat_le, List, [], ◌∷◌, true, false, map, filter, codes}
+use Rattle.std.specs.Prelude.{ℕ, nat_le, nat_eq, List, [], ◌∷◌, Bool, true, false, not, length, map, filter, codes}
 use Rattle.rooms_val.specs.Data.{text}
 use Rattle.migrate_seq.specs.declared.migration.Filter.TheVariants.{All, Type_, Kind}
 use Rattle.migrate_seq.specs.declared.migration.MigScope.TheVariants.{Record}
@@ -60,6 +60,10 @@ binding version = sequence_at version (codes "rooms.binding") ((3, binding_1) �
 unfoldable pub shape : ℕ → SequenceTree
 shape version = sequence_at version (codes "rooms.shape") ((2, shape_1) ∷ (3, shape_2) ∷ [])
 
--- the sequences at a version, in the order of their ids
+-- a sequence has a migration
+abbrev pub has_migrations : SequenceTree → Bool
+has_migrations s = not (nat_eq (length s.migrations) 0)
+
+-- the sequences of which a migration is there at a version, in the order of their ids
 unfoldable pub sequences : ℕ → List SequenceTree
-sequences version = base version ∷ binding version ∷ shape version ∷ []
+sequences version = filter has_migrations (base version ∷ binding version ∷ shape version ∷ [])

@@ -1,5 +1,5 @@
 //! The migrations, in sequences.
-ghost use Rattle.std.specs.Prelude.{◌≡◌, ◌↔◌, IsTrue, IfOk, map};
+ghost use Rattle.std.specs.Prelude.{◌≡◌, ◌↔◌, IsTrue, IfOk, map, filter};
 ghost use Rattle.migrate_seq.specs.SequencesOf.{sequences_of};
 ghost use Rattle.migrate_seq.specs.declared.fault.SeqFault.TheVariants as seq_fault;
 ghost use Rattle.tl_tables.specs.Trees.{migration_tree, sequence_tree};
@@ -10,16 +10,17 @@ use migrate_seq::{Filter, MigScope, Migration, SeqFault, Sequence, Sequences};
 use rooms_val::{Mem, OutOfMemory, Text};
 use std::alloc::Global;
 
-/// The sequences at a version.
+/// The sequences of which a migration is there at a version.
 #[tactic(auto, unfolding(crate::specs::Migrations::sequences))]
 pub(crate) fn sequences(alloc: Global, version: u32) -> Mem<Sequences>
     ensures { IfOk result (λ s. map sequence_tree (sequences_of s) ≡ rows.sequences version) }
 {
-    let list = vec![in alloc;
+    let mut list = vec![in alloc;
         base(alloc, version)?,
         binding(alloc, version)?,
         shape(alloc, version)?,
     ]?;
+    drop_empty(&mut list);
     match Sequences::build(alloc, list) {
         Ok(sequences) => Ok(sequences),
         Err(fault) => {
@@ -31,13 +32,21 @@ pub(crate) fn sequences(alloc: Global, version: u32) -> Mem<Sequences>
     }
 }
 
+/// Drops the sequences that have no migration.
+fn drop_empty(list: &mut Vec<Sequence>)
+    ensures { map sequence_tree list.new.items ≡ filter rows.has_migrations (map sequence_tree list.old.items) }
+{
+    list.retain(|sequence| !sequence.migrations.is_empty());
+}
+
 fn is_out_of_memory(fault: &SeqFault) -> bool
     ensures { IsTrue result ↔ (fault.now ≡ seq_fault.OutOfMemory) }
 {
     matches!(fault, SeqFault::OutOfMemory)
 }
 
-/// A retroactive sequence with those of some migrations that are there at a version, each given with the first one.
+/// A retroactive sequence with those of some migrations that are there at a version, each given with the first version
+/// that has it.
 #[tactic(auto, unfolding(crate::specs::Migrations::sequence_at))]
 fn sequence_at(
     alloc: Global,
