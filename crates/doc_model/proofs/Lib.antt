@@ -1,0 +1,4 @@
+pub mod ReplayLemmas
+pub mod InverseLemmas
+pub mod MergeLemmas
+pub mod MarkLemmas

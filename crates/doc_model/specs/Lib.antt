@@ -1,0 +1,4 @@
+pub mod Documents
+pub mod Inverses
+pub mod Merging
+pub mod Marks
