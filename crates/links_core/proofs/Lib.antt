@@ -1,0 +1,4 @@
+pub mod Members
+mod ThreadLemmas
+mod WriteLemmas
+mod ChangeLemmas
