@@ -1,0 +1,10 @@
+mod Orders
+mod Clocks
+mod Steps
+mod Takes
+mod SinceLemmas
+mod PruneLemmas
+mod PlaceLemmas
+mod TouchLemmas
+mod OneChange
+mod SoundLemmas
