@@ -1,19 +1,13 @@
 -- The ids of the records that stand in slots.
-use Rattle.std.proofs.Common.{◌≡◌, ℕ, List, [], ◌∷◌, Bool, true, false, ◌&&◌, T, cond, map, Option, Some, None, Ordering, Less, Equal, Greater, refl, sym, ap, ◌∙◌}
+use Rattle.std.proofs.Common.{◌≡◌, ℕ, List, [], ◌∷◌, Bool, true, false, T, cond, map, Option, Some, None, Less, Equal, Greater, refl, sym, ap, ◌∙◌}
 use Rattle.std.specs.Option.{is_some}
 use Rattle.std.specs.Ordering.{is_lt}
 use Rattle.std.specs.FinMap.Entries.{below_all, by_order, where_key}
 use Rattle.rooms_val.specs.Data.{Data, Pairs}
-use Rattle.rooms_val.proofs.Places.{order, first, second}
-use Rattle.field_ops.specs.Entries.{AreRising, with_key, set_at}
-use Rattle.field_ops.proofs.ForRoomsVal.{rising_rest}
-use Rattle.room_model.proofs.InverseLaws.{none_later}
+use Rattle.rooms_val.specs.Maps.{order, AreRising, with_key, set_at}
+use Rattle.rooms_val.proofs.MapsLemmas.{first, second, both, less, rising_rest, none_later}
 use Rattle.doc_store.specs.Slots.{Slots, held, present}
 use Rattle.doc_store.proofs.SlotLaws.{present-empty, present-without_key}
-
-both : (a b : Bool) → T a → T b → T (a && b)
-both true b p q = q
-both false b p q = p
 
 below-put : (k id : List ℕ) (m : Pairs) (d : Data) → T (is_lt (order k id)) → T (below_all order k m) → T (below_all order k (with_key m id d))
 below-put k id [] d lower h = both _ _ lower tt
@@ -37,11 +31,6 @@ below-set k id m (Some d) lower h = below-put k id m d lower h
 below-present : (k : List ℕ) (s : Slots) → T (below_all order k s) → T (below_all order k (present s))
 below-present k [] h = tt
 below-present k (e ∷ s) h = below-set k e.0 (present s) e.1 (first _ _ h) (below-present k s (second _ _ h))
-
-less : (o : Ordering) → T (is_lt o) → o ≡ Less
-less Less h = refl
-less Equal h = absurd h
-less Greater h = absurd h
 
 put_below : (k : List ℕ) (m : Pairs) (d : Data) → T (below_all order k m) → with_key m k d ≡ (k, d) ∷ m
 put_below k [] d h = refl

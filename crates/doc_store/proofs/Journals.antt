@@ -3,11 +3,12 @@ use Rattle.std.proofs.Common.{◌≡◌, ℕ, suc, ◌+◌, ◌-◌, ◌<◌, �
 use Rattle.std.proofs.lemmas.List.{reverse-append, append-nil}
 use Rattle.std.proofs.Math.Seq.{take-suc}
 use Rattle.rooms_val.specs.Data.{Data, Pairs}
-use Rattle.field_ops.specs.Entries.{AreRising, value_at, with_key, set_at}
+use Rattle.rooms_val.specs.Maps.{AreRising, value_at, with_key, set_at}
 use Rattle.doc_store.specs.Begun.{outer}
-use Rattle.doc_store.specs.Slots.{Slots}
+use Rattle.doc_store.specs.Slots.{Slots, AreFull}
 use Rattle.doc_store.proofs.SlotLaws.{set_same, set_back, is_there}
-use Rattle.doc_store.specs.Journal.{Note, began, wrote, begun, IsUndoable, forgotten, note_of, notes_of}
+use Rattle.doc_store.specs.Journal.{Note, began, wrote, begun, IsUndoable, AreNoted, slots_before, forgotten, note_of, notes_of}
+use Rattle.doc_store.proofs.Fullness.{none_noted}
 use Rattle.doc_store.specs.declared.journal.Entry.{Entry}
 
 pub begun-forgotten : (ns : List Note) (s : Slots) → begun (forgotten ns) s ≡ outer (begun ns s)
@@ -57,6 +58,12 @@ module _ (ns : List Note) (s : Slots) (id : List ℕ) (rising : AreRising s) whe
   pub begun-unwritten : begun (wrote id (value_at s id) ∷ ns) s ≡ begun ns s
   begun-unwritten = ap (begun ns) (set_same s id rising)
 
+  pub before-write : (r : Option Data) → slots_before (wrote id (value_at s id) ∷ ns) (with_key s id r) ≡ slots_before ns s
+  before-write r = ap (slots_before ns) (set_back s id r rising)
+
+  pub before-unwritten : slots_before (wrote id (value_at s id) ∷ ns) s ≡ slots_before ns s
+  before-unwritten = ap (slots_before ns) (set_same s id rising)
+
   pub undoable-write : (r : Option Data) → IsUndoable ns s → IsUndoable (wrote id (value_at s id) ∷ ns) (with_key s id r)
   undoable-write r was = (λ _. is_there s id r, subst (IsUndoable ns) (sym (set_back s id r rising)) was)
 
@@ -71,3 +78,8 @@ tidied depth J s (m ∷ B) counted idle busy = busy (omega arith)
 pub length-outer : (B : List Pairs) → length (outer B) ≡ length B - 1
 length-outer [] = refl
 length-outer (m ∷ B) = omega arith
+
+-- where the journal is empty, no slot is
+pub full_left : (J : List Entry) (s : Slots) → length J ≡ 0 → AreNoted (notes_of J) s → AreFull s
+full_left [] s none noted = none_noted s noted
+full_left (e ∷ J) s none noted = absurd (omega arith)

@@ -3,3 +3,4 @@ pub mod Trees
 pub mod Ids
 pub mod Journals
 pub mod Applied
+pub mod Fullness

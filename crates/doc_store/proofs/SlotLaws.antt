@@ -1,17 +1,15 @@
 -- What slots hold after a change of one of them.
 use Rattle.std.proofs.Common.{◌≡◌, ℕ, List, [], ◌∷◌, Bool, true, false, cond, is_eq, Option, Some, None, refl, sym, ap, subst, ◌∙◌}
 use Rattle.std.specs.Option.{is_some}
-use Rattle.rooms_val.specs.Data.{Data, Pairs, map, members_of, IsSound}
-use Rattle.rooms_val.specs.Maps.{get}
-use Rattle.rooms_val.proofs.Views.{sound_put, sound_where}
-use Rattle.field_ops.specs.Entries.{AreRising, value_at, with_key, without_key, set_at}
-use Rattle.field_ops.specs.Laws.{IsSoundRecord}
-use Rattle.field_ops.proofs.ForRoomsVal.{ties, by_tie, order_itself, at-set_at, at-with_key, at-without_key, rising-set_at, rising-with_key, rising-without_key, same_pairs}
+use Rattle.rooms_val.specs.Data.{Data, map, members_of, IsSound, IsSoundRecord}
+use Rattle.rooms_val.specs.Maps.{value_at, AreRising, with_key, without_key, set_at, ties}
+use Rattle.rooms_val.proofs.DataLemmas.{sound-set_at, sound-where_key}
+use Rattle.rooms_val.proofs.MapsLemmas.{by_tie, order_itself, at-set_at, at-with_key, at-without_key, rising-set_at, rising-with_key, rising-without_key, same_pairs}
 use Rattle.doc_store.specs.Slots.{Slots, held, present, AreSound}
 
-pub get-present : (s : Slots) (q : List ℕ) → get (present s) q ≡ held (value_at s q)
+pub get-present : (s : Slots) (q : List ℕ) → value_at (present s) q ≡ held (value_at s q)
 get-present [] q = refl
-get-present (e ∷ s) q = at-set_at (present s) e.0 q e.1 ∙ elim (ties q e.0) as (λ t. cond t e.1 (get (present s) q) ≡ held (cond t (Some e.1) (value_at s q))) [ true ↦ refl | false ↦ get-present s q ]
+get-present (e ∷ s) q = at-set_at (present s) e.0 q e.1 ∙ elim (ties q e.0) as (λ t. cond t e.1 (value_at (present s) q) ≡ held (cond t (Some e.1) (value_at s q))) [ true ↦ refl | false ↦ get-present s q ]
 
 pub rising-present : (s : Slots) → AreRising (present s)
 rising-present [] = tt
@@ -38,7 +36,7 @@ present-without_key s id = same_pairs _ _ (rising-present (without_key s id)) (r
 -- a slot without a record can go
 pub present-empty : (s : Slots) (id : List ℕ) → held (value_at s id) ≡ None → present (without_key s id) ≡ present s
 present-empty s id none = present-without_key s id ∙ same_pairs _ _ (rising-without_key (present s) id (rising-present s)) (rising-present s) (λ q.
-    at-without_key (present s) id q ∙ by_tie (λ t. cond t None (get (present s) q) ≡ get (present s) q) q id (λ same. sym (ap (get (present s)) same ∙ get-present s id ∙ none)) refl)
+    at-without_key (present s) id q ∙ by_tie (λ t. cond t None (value_at (present s) q) ≡ value_at (present s) q) q id (λ same. sym (ap (value_at (present s)) same ∙ get-present s id ∙ none)) refl)
 
 -- a slot put back as it was
 pub set_same : (s : Slots) (id : List ℕ) → AreRising s → set_at s id (value_at s id) ≡ s
@@ -53,18 +51,14 @@ set_back s id r rising = same_pairs _ s (rising-set_at (with_key s id r) id (val
 pub is_there : (s : Slots) (id : List ℕ) (r : Option Data) → is_some (value_at (with_key s id r) id) ≡ true
 is_there s id r = ap is_some (at-with_key s id id r ∙ ap (λ o. cond (is_eq o) (Some r) (value_at s id)) (order_itself id))
 
-sound_set : (m : Pairs) (id : List ℕ) (r : Option Data) → IsSound (map (members_of m)) → IsSoundRecord r → IsSound (map (members_of (set_at m id r)))
-sound_set m id None sound new = sound_where _ m sound
-sound_set m id (Some d) sound new = sound_put m id d sound new
-
 pub sound-with_key : (s : Slots) (id : List ℕ) (r : Option Data) → AreSound s → IsSoundRecord r → AreSound (with_key s id r)
 sound-with_key s id r was new = record {
   rising = rising-with_key s id r was.rising;
-  sound = subst (λ m. IsSound (map (members_of m))) (sym (present-with_key s id r)) (sound_set (present s) id r was.sound new);
+  sound = subst (λ m. IsSound (map (members_of m))) (sym (present-with_key s id r)) (sound-set_at (present s) id r was.sound new);
 }
 
 pub sound-without_key : (s : Slots) (id : List ℕ) → AreSound s → AreSound (without_key s id)
 sound-without_key s id was = record {
   rising = rising-without_key s id was.rising;
-  sound = subst (λ m. IsSound (map (members_of m))) (sym (present-without_key s id)) (sound_where _ (present s) was.sound);
+  sound = subst (λ m. IsSound (map (members_of m))) (sym (present-without_key s id)) (sound-where_key _ (present s) was.sound);
 }

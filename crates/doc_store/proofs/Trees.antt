@@ -13,10 +13,9 @@ use denote.Ref.{Bor}
 use Rattle.rooms_val.specs.Data.{Data}
 use Rattle.rooms_val.specs.View.{data_of}
 use Rattle.rooms_val.specs.declared.val.Val.{Val}
-use Rattle.rooms_val.proofs.Places.{order}
-use Rattle.field_ops.specs.Entries.{AreRising, value_at, with_key, without_key}
+use Rattle.rooms_val.specs.Maps.{order, AreRising, value_at, with_key, without_key, ties}
 use Rattle.field_ops.specs.View.{maybe_data}
-use Rattle.field_ops.proofs.ForRoomsVal.{ties, by_tie, order_itself, rising_rest, taken_first}
+use Rattle.rooms_val.proofs.MapsLemmas.{by_tie, order_itself, rising_rest, taken_first}
 use Rattle.doc_store.specs.Slots.{Slots}
 use Rattle.doc_store.specs.Tree.{slots_view}
 

@@ -1,9 +1,9 @@
 -- Slots under ids, which hold a record or, while a transaction is open, what is left of one that was taken away.
-use Rattle.std.specs.Prelude.{ℕ, List, [], ◌∷◌, Option, None, Some}
+use Rattle.std.specs.Prelude.{◌≡◌, ℕ, List, [], ◌∷◌, Option, None, Some}
 use Rattle.std.specs.Coded.{Coded, coded×, coded_list, coded_option, coded_ℕ}
 use Rattle.rooms_val.specs.Data.{Data, Pairs, map, members_of, IsSound}
 use Rattle.rooms_val.specs.Code.{coded_data}
-use Rattle.field_ops.specs.Entries.{AreRising, set_at}
+use Rattle.rooms_val.specs.Maps.{AreRising, value_at, set_at}
 
 abbrev pub Slots : Type 0
 Slots = List (List ℕ × Option Data)
@@ -17,6 +17,10 @@ held (Some r) = r
 abbrev pub present : Slots → Pairs
 present [] = []
 present (s ∷ slots) = set_at (present slots) s.0 s.1
+
+-- no slot is empty
+abbrev pub AreFull : Slots → Type 0
+AreFull slots = (id : List ℕ) → ¬ (value_at slots id ≡ Some None)
 
 -- the ids rise, and so do the keys of every map in the records
 pub record AreSound (slots : Slots) : Type 0 where

@@ -1,11 +1,10 @@
 //! The journal by which transactions are undone.
-ghost use Rattle.std.specs.Prelude.{◌≡◌, ◌≢◌, ◌<◌, [], ◌∷◌, true, IfOk, OnOk, OnErr, option_map, is_some, string_bytes};
-ghost use Rattle.rooms_val.specs.Maps.{get};
-ghost use Rattle.field_ops.specs.Entries.{value_at, set_at, with_key};
+ghost use Rattle.std.specs.Prelude.{◌≡◌, ◌≢◌, ◌<◌, [], ◌∷◌, ℕ, List, true, IfOk, OnOk, OnErr, option_map, is_some, string_bytes};
+ghost use Rattle.rooms_val.specs.Maps.{value_at, set_at, with_key};
 ghost use Rattle.field_ops.specs.View.{maybe_data};
-ghost use Rattle.doc_store.specs.Slots.{present};
+ghost use Rattle.doc_store.specs.Slots.{present, AreFull};
 ghost use Rattle.doc_store.specs.Slots as slots_spec;
-ghost use Rattle.doc_store.specs.Journal.{began, begun, IsUndoable, forgotten, notes_of};
+ghost use Rattle.doc_store.specs.Journal.{Note, began, begun, IsUndoable, AreNoted, slots_before, forgotten, note_of, notes_of};
 
 use crate::slots::{Slot, Slots};
 use rooms_val::{Mem, Val};
@@ -38,10 +37,11 @@ pub(crate) fn write(
     record_: Option<Val>,
 ) -> Mem<Option<Val>>
     requires { IsUndoable (notes_of journal.old.items) slots.old }
-    ensures old { IfOk result (λ r. maybe_data r ≡ get (present slots.old) id.now) }
+    ensures old { IfOk result (λ r. maybe_data r ≡ value_at (present slots.old) id.now) }
     ensures ok { OnOk result (present slots.new ≡ set_at (present slots.old) id.now (maybe_data record_)) }
     ensures undoable { IsUndoable (notes_of journal.new.items) slots.new }
     ensures begun { begun (notes_of journal.new.items) slots.new ≡ begun (notes_of journal.old.items) slots.old }
+    ensures before { slots_before (notes_of journal.new.items) slots.new ≡ slots_before (notes_of journal.old.items) slots.old }
 {
     let key = String::from_str(alloc, id)?;
     let before = slots.slot(alloc, id)?;
@@ -57,8 +57,9 @@ pub(crate) fn write_plain(
     id: &str,
     record_: Option<Val>,
 ) -> Mem<Option<Val>>
-    ensures old { IfOk result (λ r. maybe_data r ≡ get (present slots.old) id.now) }
+    ensures old { IfOk result (λ r. maybe_data r ≡ value_at (present slots.old) id.now) }
     ensures ok { OnOk result (present slots.new ≡ set_at (present slots.old) id.now (maybe_data record_)) }
+    ensures full { AreFull slots.old → AreFull slots.new }
 {
     match record_ {
         Some(val) => Ok(held(slots.put(String::from_str(alloc, id)?, Some(val))?)),
@@ -86,6 +87,7 @@ pub(crate) fn undo(journal: &mut Vec<Entry>, slots: &mut Slots)
     requires one { begun (notes_of journal.old.items) slots.old ≢ [] }
     ensures restored { begun (notes_of journal.old.items) slots.old ≡ present slots.new ∷ begun (notes_of journal.new.items) slots.new }
     ensures undoable { IsUndoable (notes_of journal.new.items) slots.new }
+    ensures before { slots_before (notes_of journal.new.items) slots.new ≡ slots_before (notes_of journal.old.items) slots.old }
 {
     'entries: while let Some(entry) = journal.pop() {
         match entry {
@@ -97,32 +99,47 @@ pub(crate) fn undo(journal: &mut Vec<Entry>, slots: &mut Slots)
 
 /// Empties the journal where no transaction is open, with the slots that have no record.
 pub(crate) fn tidy(depth: usize, journal: &mut Vec<Entry>, slots: &mut Slots)
-    requires { IsUndoable (notes_of journal.old.items) slots.old }
+    requires undoable { IsUndoable (notes_of journal.old.items) slots.old }
+    requires full { AreFull (slots_before (notes_of journal.old.items) slots.old) }
     ensures records { present slots.new ≡ present slots.old }
     ensures idle { depth ≡ 0 → journal.new.items ≡ [] }
     ensures busy { 0 < depth → begun (notes_of journal.new.items) slots.new ≡ begun (notes_of journal.old.items) slots.old }
     ensures undoable { IsUndoable (notes_of journal.new.items) slots.new }
+    ensures full { AreFull (slots_before (notes_of journal.new.items) slots.new) }
 {
     if depth == 0 {
         clear(journal, slots);
     }
 }
 
+// Empties the journal, and takes the slots away that are empty: each of them was written.
 fn clear(journal: &mut Vec<Entry>, slots: &mut Slots)
+    requires { AreFull (slots_before (notes_of journal.old.items) slots.old) }
     ensures records { present slots.new ≡ present slots.old }
     ensures emptied { journal.new.items ≡ [] }
+    ensures full { AreFull slots.new }
 {
     'entries: while let Some(entry) = journal.pop() {
-        match entry {
-            Entry::Began => {}
-            Entry::Wrote(id, _) => drop_empty(slots, id.as_str()),
-        }
+        drop_written(slots, &entry);
+    }
+}
+
+// Takes the slot away that was written, where it has no record.
+fn drop_written(slots: &mut Slots, entry: &Entry)
+    ensures records { present slots.new ≡ present slots.old }
+    ensures noted { (older : List Note) → AreNoted (note_of entry.now ∷ older) slots.old → AreNoted older slots.new }
+{
+    match entry {
+        Entry::Began => {}
+        Entry::Wrote(id, _) => drop_empty(slots, id.as_str()),
     }
 }
 
 // Takes a slot away that has no record.
 fn drop_empty(slots: &mut Slots, id: &str)
-    ensures { present slots.new ≡ present slots.old }
+    ensures records { present slots.new ≡ present slots.old }
+    ensures dropped { ¬ (value_at slots.new id.now ≡ Some None) }
+    ensures others { (q : List ℕ) → value_at slots.new q ≡ Some None → value_at slots.old q ≡ Some None }
 {
     match slots.get(id) {
         Some(_) => {}

@@ -1,12 +1,11 @@
 //! The plain store.
 ghost use Rattle.std.specs.Prelude.{◌≡◌, []};
 
-use crate::fault::TxnFault;
 use crate::journal;
 use crate::journal::Entry;
 use crate::slots::Slots;
 use crate::store::DocStore;
-use rooms_val::{Mem, Steps, Text, Val};
+use rooms_val::{Mem, Steps, Text, TxnFault, Val};
 use std::alloc::Global;
 use std::marker::Model;
 use std::sync::ledger::Ledger;

@@ -1,9 +1,8 @@
 //! The slots that hold a store's records.
 ghost use Rattle.std.specs.Prelude.{◌≡◌, [], IfOk, OnOk, OnErr, option_map, string_bytes, map};
-ghost use Rattle.rooms_val.specs.Data.{members_of, IsSound, map as map_data};
+ghost use Rattle.rooms_val.specs.Data.{members_of, IsSound, map as map_data, IsSoundRecord};
 ghost use Rattle.rooms_val.specs.View.{data_of};
-ghost use Rattle.field_ops.specs.Entries.{AreRising, value_at, with_key, without_key};
-ghost use Rattle.field_ops.specs.Laws.{IsSoundRecord};
+ghost use Rattle.rooms_val.specs.Maps.{AreRising, value_at, with_key, without_key};
 ghost use Rattle.field_ops.specs.View.{maybe_data};
 
 use rooms_val::{Mem, OutOfMemory, Text, Val};

@@ -1,19 +1,18 @@
 //! Diffs that are applied to a store.
-ghost use Rattle.std.specs.Prelude.{◌≡◌, ◌+◌, ◌≤◌, ◌↔◌, length, IfOk, OnOk, OnErr};
+ghost use Rattle.std.specs.Prelude.{◌≡◌, ◌+◌, ◌≤◌, ◌↔◌, length, IfOk, OnOk, OnErr, option_map};
 ghost use Rattle.std.specs.Option.{option_copied};
-ghost use Rattle.field_ops.specs.Entries.{added};
+ghost use Rattle.rooms_val.specs.Maps.{added};
 ghost use Rattle.field_ops.specs.View.{maybe_data};
 ghost use Rattle.field_ops.specs.ViewRecordOps.{change_of, maybe_change};
 ghost use Rattle.field_ops.specs.Patched.{raw};
 ghost use Rattle.schema_core.specs.Admits.{is_admitted};
 ghost use Rattle.schema_core.specs.SchemaOf.{schema_tree};
-ghost use Rattle.room_model.specs.Documents.{acts_on, step, stepped};
-ghost use Rattle.room_model.specs.Inverses.{inverse_diff, undoing, ArePatchedAdmitted};
+ghost use Rattle.doc_model.specs.Documents.{acts_on, left_on, step, step_at};
+ghost use Rattle.doc_model.specs.Inverses.{inverse_diff, inverse_of_op};
 
-use crate::fault::TxnFault;
 use crate::store::DocStore;
 use field_ops::{Diff, RecordOp, apply_record, inverse};
-use rooms_val::{Mem, Steps, Text, Val};
+use rooms_val::{Mem, Steps, Text, TxnFault, Val};
 use schema_core::Schema;
 use std::alloc::Global;
 use std::sync::ledger::Ledger;
@@ -22,8 +21,8 @@ use std::sync::ledger::Ledger;
 /// schema admits. Answers the diff that undoes what acted. It counts at most a step for each operation. `TooNested` exactly
 /// where 16 transactions are open, or `OutOfMemory`; then the records are as before.
 pub fn apply<D: DocStore, L: Ledger>(
-    store: &mut D,
     alloc: Global,
+    store: &mut D,
     schema: &Schema,
     diff: &Diff,
     steps: &mut Steps<L>,
@@ -37,7 +36,7 @@ pub fn apply<D: DocStore, L: Ledger>(
     ensures ticks { steps.new ≤ steps.old + length diff.now }
 {
     store.begin()?;
-    match apply_each(store, alloc, schema, diff, steps) {
+    match apply_each(alloc, store, schema, diff, steps) {
         Ok(back) => {
             store.commit();
             Ok(back)
@@ -49,34 +48,10 @@ pub fn apply<D: DocStore, L: Ledger>(
     }
 }
 
-/// Applies a diff, and then the diff that undoes it. The records are as before, where each record that a patch changed was
-/// admitted. `TooNested` exactly where 16 transactions are open, and then the records are as before; or `OutOfMemory`, and
-/// then nothing is said of them.
-pub fn apply_and_undo<D: DocStore, L: Ledger>(
-    store: &mut D,
-    alloc: Global,
-    schema: &Schema,
-    diff: &Diff,
-    steps: &mut Steps<L>,
-) -> Result<(), TxnFault>
-    ensures undone { ArePatchedAdmitted (is_admitted (schema_tree schema.now)) (D.records store.old) diff.now → OnOk result (D.records store.new ≡ D.records store.old) }
-    ensures nested { (result ≡ Err TxnFault.TooNested) ↔ (16 ≤ length (D.begun store.old)) }
-    ensures untouched { result ≡ Err TxnFault.TooNested → D.records store.new ≡ D.records store.old }
-    ensures begun { D.begun store.new ≡ D.begun store.old }
-    ensures rest { D.rest store.new ≡ D.rest store.old }
-{
-    // A look-up tells that the records are sound, and the diff's length that its ids rise.
-    let _ = store.get("");
-    let _ = diff.len();
-    let back = apply(store, alloc, schema, diff, steps)?;
-    apply(store, alloc, schema, &back, steps)?;
-    Ok(())
-}
-
 // The step, operation by operation.
 fn apply_each<D: DocStore, L: Ledger>(
-    store: &mut D,
     alloc: Global,
+    store: &mut D,
     schema: &Schema,
     diff: &Diff,
     steps: &mut Steps<L>,
@@ -89,7 +64,7 @@ fn apply_each<D: DocStore, L: Ledger>(
 {
     let mut back = Diff::new(alloc);
     'ids: for (id, op) in diff.as_slice() {
-        let undo = apply_one(store, alloc, schema, id, op, steps)?;
+        let undo = apply_one(alloc, store, schema, id, op, steps)?;
         keep(alloc, &mut back, id, undo)?;
     }
     Ok(back)
@@ -97,37 +72,53 @@ fn apply_each<D: DocStore, L: Ledger>(
 
 // Does one operation, where it acts, and answers what undoes it.
 fn apply_one<D: DocStore, L: Ledger>(
-    store: &mut D,
     alloc: Global,
+    store: &mut D,
     schema: &Schema,
     id: &Text,
     op: &RecordOp,
     steps: &mut Steps<L>,
 ) -> Mem<Option<RecordOp>>
-    ensures ok { OnOk result (D.records store.new ≡ stepped (is_admitted (schema_tree schema.now)) (D.records store.old) id.now (change_of op.now)) }
-    ensures back { IfOk result (λ undo. maybe_change undo ≡ undoing (is_admitted (schema_tree schema.now)) (D.records store.old) id.now (change_of op.now)) }
+    ensures ok { OnOk result (D.records store.new ≡ step_at (is_admitted (schema_tree schema.now)) (D.records store.old) id.now (change_of op.now)) }
+    ensures back { IfOk result (λ undo. maybe_change undo ≡ inverse_of_op (is_admitted (schema_tree schema.now)) (D.records store.old) id.now (change_of op.now)) }
     ensures begun { D.begun store.new ≡ D.begun store.old }
     ensures rest { D.rest store.new ≡ D.rest store.old }
     ensures ticks { steps.new ≤ steps.old + 1 }
 {
     let before = store.get(id.as_str());
-    let after = apply_record(alloc, before, op)?;
-    if !acts(schema, id, before, &after, op) {
-        return Ok(None);
+    let left = step_record(alloc, schema, id.as_str(), before, op)?;
+    match left {
+        Some(after) => {
+            let undo = inverse(alloc, before, op)?;
+            drop(store.write(alloc, id.as_str(), after, steps)?);
+            Ok(undo)
+        }
+        None => Ok(None),
     }
-    let undo = inverse(alloc, before, op)?;
-    drop(store.write(alloc, id.as_str(), after, steps)?);
-    Ok(undo)
+}
+
+/// What an operation leaves of the record under an id, or of the lack of one: a record or none. `None` exactly where the
+/// operation is passed over, as a remove of no record, and a patch that leaves no record that the schema admits. It costs
+/// the record and the operation.
+pub fn step_record(
+    alloc: Global,
+    schema: &Schema,
+    id: &str,
+    record_: Option<&Val>,
+    op: &RecordOp,
+) -> Mem<Option<Option<Val>>>
+    ensures { IfOk result (λ left. option_map maybe_data left ≡ left_on (is_admitted (schema_tree schema.now)) id.now (change_of op.now) (maybe_data (option_copied record_.entry))) }
+{
+    let after = apply_record(alloc, record_, op)?;
+    if acts(schema, id, record_, &after, op) {
+        Ok(Some(after))
+    } else {
+        Ok(None)
+    }
 }
 
 // Whether an operation acts that makes one record of another.
-fn acts(
-    schema: &Schema,
-    id: &Text,
-    before: Option<&Val>,
-    after: &Option<Val>,
-    op: &RecordOp,
-) -> bool
+fn acts(schema: &Schema, id: &str, before: Option<&Val>, after: &Option<Val>, op: &RecordOp) -> bool
     requires { maybe_data after.now ≡ raw (change_of op.now) (maybe_data (option_copied before)) }
     ensures { result ≡ acts_on (is_admitted (schema_tree schema.now)) id.now (change_of op.now) (maybe_data (option_copied before.entry)) }
 {
@@ -135,7 +126,7 @@ fn acts(
         RecordOp::Put(_) => true,
         RecordOp::Remove => before.is_some(),
         RecordOp::Patch(_) => match after {
-            Some(val) => schema.admits(id.as_str(), val).is_ok(),
+            Some(val) => schema.admits(id, val).is_ok(),
             None => false,
         },
     }

@@ -1,8 +1,7 @@
 //! What a store of records is.
 ghost use Rattle.std.specs.Prelude.{◌≡◌, ◌≢◌, ◌+◌, ◌≤◌, ◌↔◌, [], ◌∷◌, length, map, IfOk, OnOk, OnErr, option_map};
 
-use crate::fault::TxnFault;
-use rooms_val::{Mem, Steps, Text, Val};
+use rooms_val::{Mem, Steps, Text, TxnFault, Val};
 use std::alloc::Global;
 use std::sync::ledger::Ledger;
 
@@ -10,9 +9,8 @@ use std::sync::ledger::Ledger;
 pub trait DocStore {
     ghost use Rattle.std.specs.Prelude.{List};
     ghost use Rattle.rooms_val.specs.Data.{Pairs, members_of, IsSound, map as map_data};
-    ghost use Rattle.rooms_val.specs.Maps.{get};
+    ghost use Rattle.rooms_val.specs.Maps.{value_at, set_at};
     ghost use Rattle.rooms_val.specs.View.{data_of};
-    ghost use Rattle.field_ops.specs.Entries.{set_at};
     ghost use Rattle.field_ops.specs.View.{maybe_data};
     ghost use Rattle.doc_store.specs.Begun.{outer};
 
@@ -29,7 +27,7 @@ pub trait DocStore {
 
     /// The record of an id. `None` exactly where there is none.
     fn get(&self, id: &str) -> Option<&Val>
-        ensures found { option_map (λ v. data_of v.now) result ≡ get (records self.now) id.now }
+        ensures found { option_map (λ v. data_of v.now) result ≡ value_at (records self.now) id.now }
         ensures sound { IsSound (map_data (members_of (records self.now))) };
 
     /// The ids of the records, in order.
@@ -45,7 +43,7 @@ pub trait DocStore {
         record_: Option<Val>,
         steps: &mut Steps<L>,
     ) -> Mem<Option<Val>>
-        ensures old { IfOk result (λ r. maybe_data r ≡ get (records self.old) id.now) }
+        ensures old { IfOk result (λ r. maybe_data r ≡ value_at (records self.old) id.now) }
         ensures ok { OnOk result (records self.new ≡ set_at (records self.old) id.now (maybe_data record_)) }
         ensures ticked { OnOk result (steps.new ≡ steps.old + 1) }
         ensures untold { OnErr result (steps.new ≤ steps.old + 1) }

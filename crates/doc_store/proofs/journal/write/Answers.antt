@@ -1,10 +1,10 @@
 use Rattle.std.proofs.Common.{◌≡◌, ap, sym, subst, ◌∙◌}
-use Rattle.field_ops.specs.Entries.{value_at, set_at, with_key}
+use Rattle.rooms_val.specs.Maps.{value_at, set_at, with_key}
 use Rattle.field_ops.specs.View.{maybe_data}
 use Rattle.doc_store.specs.Slots.{held, present}
-use Rattle.doc_store.specs.Journal.{wrote, begun, IsUndoable, notes_of}
+use Rattle.doc_store.specs.Journal.{wrote, begun, IsUndoable, slots_before, notes_of}
 use Rattle.doc_store.proofs.SlotLaws.{get-present, present-with_key}
-use Rattle.doc_store.proofs.Journals.{noted, begun-write, begun-unwritten, undoable-write, undoable-unwritten}
+use Rattle.doc_store.proofs.Journals.{noted, begun-write, begun-unwritten, before-write, before-unwritten, undoable-write, undoable-unwritten}
 use Rattle.doc_store.proofs.journal.write.Goals as goal
 
 pub returns-in_err-old-clause-undoable : goal.returns-in_err-old-clause-undoable
@@ -41,3 +41,15 @@ returns-clause-begun c =
     let left : c.put.new.self ≡ with_key c.args.slots.now c.args.id.now (maybe_data c.args.record_) =
     c.in_ok-old.ensures.ok ∙ ap (λ k. with_key c.args.slots.now k (maybe_data c.args.record_)) c.in_ok-key.ensures.ok in
     (λ i. begun (notes i) (left i)) ∙ begun-write (notes_of c.args.journal.now.items) c.args.slots.now c.args.id.now c.in_ok-before.ensures.sound.rising (maybe_data c.args.record_)
+
+pub returns-in_err-old-clause-before : goal.returns-in_err-old-clause-before
+returns-in_err-old-clause-before c =
+    let notes = noted c.args.journal.now.items _ _ _ c.in_ok-push.ensures.items (λ i. wrote (c.in_ok-from_str.ensures.ok i) (c.in_ok-before.ensures.found i)) in
+    (λ i. slots_before (notes i) (c.in_err-old.ensures.err i)) ∙ before-unwritten (notes_of c.args.journal.now.items) c.args.slots.now c.args.id.now c.in_ok-before.ensures.sound.rising
+
+pub returns-clause-before : goal.returns-clause-before
+returns-clause-before c =
+    let notes = noted c.args.journal.now.items _ _ _ c.in_ok-push.ensures.items (λ i. wrote (c.in_ok-from_str.ensures.ok i) (c.in_ok-before.ensures.found i)) in
+    let left : c.put.new.self ≡ with_key c.args.slots.now c.args.id.now (maybe_data c.args.record_) =
+    c.in_ok-old.ensures.ok ∙ ap (λ k. with_key c.args.slots.now k (maybe_data c.args.record_)) c.in_ok-key.ensures.ok in
+    (λ i. slots_before (notes i) (left i)) ∙ before-write (notes_of c.args.journal.now.items) c.args.slots.now c.args.id.now c.in_ok-before.ensures.sound.rising (maybe_data c.args.record_)

@@ -1,9 +1,10 @@
-use Rattle.std.proofs.Common.{Some, ap, sym, ◌∙◌}
+use Rattle.std.proofs.Common.{Some, ap, sym, subst, ◌∙◌}
 use Rattle.rooms_val.specs.View.{data_of}
-use Rattle.field_ops.specs.Entries.{value_at, set_at}
+use Rattle.rooms_val.specs.Maps.{value_at, set_at}
 use Rattle.field_ops.specs.View.{maybe_data}
-use Rattle.doc_store.specs.Slots.{held, present}
+use Rattle.doc_store.specs.Slots.{held, present, AreFull}
 use Rattle.doc_store.proofs.SlotLaws.{get-present, present-with_key, present-without_key}
+use Rattle.doc_store.proofs.Fullness.{full-with_key, full-without_key}
 use Rattle.doc_store.proofs.journal.write_plain.Goals as goal
 
 pub returns-in_ok-put-in-Some-clause-old : goal.returns-in_ok-put-in-Some-clause-old
@@ -21,3 +22,9 @@ returns-in-None-clause-old c = c.held-in-None.ensures ∙ ap held c.take.ensures
 pub returns-in-None-clause-ok : goal.returns-in-None-clause-ok
 returns-in-None-clause-ok c =
     ap present c.take.ensures.rest ∙ present-without_key c.args.slots.now c.args.id.now ∙ ap (λ r. set_at (present c.args.slots.now) c.args.id.now (maybe_data r)) (sym c.in-None.is)
+
+pub returns-in_ok-put-in-Some-clause-full : goal.returns-in_ok-put-in-Some-clause-full
+returns-in_ok-put-in-Some-clause-full c full = subst AreFull (sym c.in_ok-put-in-Some.ensures.ok) (full-with_key c.args.slots.now _ (data_of c.in-Some.val) full)
+
+pub returns-in-None-clause-full : goal.returns-in-None-clause-full
+returns-in-None-clause-full c full = subst AreFull (sym c.take.ensures.rest) (full-without_key c.args.slots.now c.args.id.now full)

@@ -1,15 +1,16 @@
 use Rattle.std.proofs.Common.{◌≡◌, ◌+◌, [], ◌∷◌, drop, refl, sym, ap, subst, ◌∙◌, arith}
-use Rattle.rooms_val.specs.Maps.{get}
+use Rattle.rooms_val.specs.Maps.{value_at, AreRising}
 use Rattle.field_ops.specs.RecordOps.{IsSoundDiff}
-use Rattle.field_ops.specs.Entries.{AreRising}
 use Rattle.field_ops.specs.ViewRecordOps.{change_of, changes_view, maybe_change}
-use Rattle.field_ops.proofs.Soundness.{rising_records}
-use Rattle.field_ops.proofs.Stages.{Going, one_off, going_first, going_next, going_done}
+use Rattle.field_ops.proofs.SoundLemmas.{rising_records}
+use Rattle.field_ops.proofs.WalkLemmas.{Going, going_first, going_next, going_done}
+use Rattle.rooms_val.proofs.ListLemmas.{one_off}
 use Rattle.schema_core.specs.Admits.{is_admitted}
 use Rattle.schema_core.specs.SchemaOf.{schema_tree}
-use Rattle.room_model.specs.Documents.{step}
-use Rattle.room_model.specs.Inverses.{inverse_diff}
-use Rattle.room_model.proofs.InverseLaws.{undone_on, rising-inverse_diff}
+use Rattle.doc_model.specs.Documents.{step}
+use Rattle.doc_model.specs.Inverses.{inverse_diff}
+use Rattle.doc_model.specs.Inverses.{inverse_on}
+use Rattle.doc_model.proofs.InverseLemmas.{rising-inverse_diff}
 use Rattle.doc_store.proofs.Applied.{Untouched, untouched_here, untouched_next, gives, gives_all}
 use Rattle.doc_store.proofs.step.apply_each.Goals as goal
 
@@ -44,8 +45,8 @@ ids-preserved g c =
     let parts : drop i s ≡ x ∷ left = one_off s i x c.ids-test.true c.ids-item.is in
     let fresh : Untouched (x ∷ left) now first = subst (λ l. Untouched l now first) parts c.ids.invariant.untouched in
     let rising : AreRising (x ∷ left) = subst AreRising parts c.ids.invariant.back.rights_rise in
-    let gave : undone_on admits x.0 op (get first x.0) ≡ maybe_change c.in_ok-undo.undo =
-    sym (c.in_ok-undo.ensures.back ∙ ap (undone_on admits x.0 op) (untouched_here x left now first fresh)) in
+    let gave : inverse_on admits x.0 op (value_at first x.0) ≡ maybe_change c.in_ok-undo.undo =
+    sym (c.in_ok-undo.ensures.back ∙ ap (inverse_on admits x.0 op) (untouched_here x left now first fresh)) in
     record {
       done = ap (λ m. step admits m (changes_view left)) c.in_ok-undo.ensures.ok ∙ sym (ap (λ l. step admits now (changes_view l)) parts) ∙ c.ids.invariant.done;
       back = subst (λ r. Going (gives admits first) target [] left r) (sym c.in_ok-keep.ensures)

@@ -1,10 +1,10 @@
 use Rattle.std.proofs.Common.{◌≡◌, ◌+◌, ◌≤◌, [], drop}
 use Rattle.field_ops.specs.ViewRecordOps.{changes_view}
-use Rattle.field_ops.proofs.Stages.{Going}
+use Rattle.field_ops.proofs.WalkLemmas.{Going}
 use Rattle.schema_core.specs.Admits.{is_admitted}
 use Rattle.schema_core.specs.SchemaOf.{schema_tree}
-use Rattle.room_model.specs.Documents.{step}
-use Rattle.room_model.specs.Inverses.{inverse_diff}
+use Rattle.doc_model.specs.Documents.{step}
+use Rattle.doc_model.specs.Inverses.{inverse_diff}
 use Rattle.doc_store.proofs.Applied.{Untouched, gives}
 use Rattle.doc_store.proofs.step.apply_each.Given as goal
 

@@ -1,6 +1,6 @@
 use Rattle.std.proofs.Common.{◌++◌, ap, sym, subst, ◌∙◌}
 use Rattle.std.proofs.lemmas.List.{append-nil}
-use Rattle.field_ops.specs.Entries.{AreRising}
+use Rattle.rooms_val.specs.Maps.{AreRising}
 use Rattle.doc_store.specs.Tree.{slots_view}
 use Rattle.doc_store.proofs.Ids.{full_ids, ids-present}
 use Rattle.doc_store.proofs.slots.Slots.ids.Goals as goal

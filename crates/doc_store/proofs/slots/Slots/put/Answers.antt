@@ -1,5 +1,5 @@
 use Rattle.std.proofs.Common.{None, string_bytes, ap, sym, subst, ◌∙◌}
-use Rattle.field_ops.specs.Entries.{with_key}
+use Rattle.rooms_val.specs.Maps.{with_key}
 use Rattle.field_ops.specs.View.{maybe_data}
 use Rattle.doc_store.specs.Slots.{AreSound}
 use Rattle.doc_store.specs.Tree.{slots_view}

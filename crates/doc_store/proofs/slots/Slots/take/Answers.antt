@@ -1,5 +1,5 @@
 use Rattle.std.proofs.Common.{ap, sym, subst, ◌∙◌}
-use Rattle.field_ops.specs.Entries.{without_key}
+use Rattle.rooms_val.specs.Maps.{without_key}
 use Rattle.doc_store.specs.Slots.{AreSound}
 use Rattle.doc_store.specs.Tree.{slots_view}
 use Rattle.doc_store.proofs.Trees.{found, slots_view-remove}
