@@ -2,36 +2,27 @@
 use Rattle.std.specs.Prelude.{ℕ, nat_lt, length, List, [], ◌∷◌, Bool, true, false, if◌then◌else◌, is_some, Option, Some, None, option_map, option_and_then, Result, Ok, Err}
 use Rattle.std.specs.Option.{option_map_or}
 use Rattle.rooms_val.specs.Data.{Pairs}
-use Rattle.rooms_val.specs.Maps.{get}
+use Rattle.rooms_val.specs.Maps.{value_at}
 use Rattle.field_ops.specs.RecordOps.{RecordOpTree, put, patch, remove, RecordOps}
 use Rattle.field_ops.specs.Patched.{raw}
 use Rattle.schema_core.specs.Tree.{SchemaTree}
-use Rattle.schema_core.specs.Admits.{scope_of, first_fault}
-use Rattle.schema_core.specs.declared.row.Scope.{Scope}
-use Rattle.schema_core.specs.declared.row.Scope.TheVariants.{Document, Session, Presence}
+use Rattle.schema_core.specs.Admits.{is_document, first_fault}
 use Rattle.side_effects.specs.declared.fault.EditFault.{EditFault}
 use Rattle.side_effects.specs.declared.fault.EditFault.TheVariants.{TooMany, WrongScope, NoRecord, Invalid}
 
--- records of this scope make up the document
-abbrev pub is_of_document : Option Scope → Bool
-is_of_document None = false
-is_of_document (Some Document) = true
-is_of_document (Some Session) = false
-is_of_document (Some Presence) = false
-
 -- the operation names an id that isn't of document scope
 abbrev pub wrong_scope : SchemaTree → List ℕ → RecordOpTree → Option EditFault
-wrong_scope s id c = if is_of_document (scope_of s id) then None else Some (WrongScope id)
+wrong_scope s id c = if is_document s id then None else Some (WrongScope id)
 
 -- the operation patches or removes a record that isn't there
 abbrev pub no_record : Pairs → List ℕ → RecordOpTree → Option EditFault
 no_record m id (put d) = None
-no_record m id (patch p) = if is_some (get m id) then None else Some (NoRecord id)
-no_record m id remove = if is_some (get m id) then None else Some (NoRecord id)
+no_record m id (patch p) = if is_some (value_at m id) then None else Some (NoRecord id)
+no_record m id remove = if is_some (value_at m id) then None else Some (NoRecord id)
 
 -- the operation leaves a record that isn't admitted, if nothing is passed over
 abbrev pub invalid : SchemaTree → Pairs → List ℕ → RecordOpTree → Option EditFault
-invalid s m id c = option_and_then (λ d. option_map (λ fault. Invalid id fault) (first_fault s id d)) (raw c (get m id))
+invalid s m id c = option_and_then (λ d. option_map (λ fault. Invalid id fault) (first_fault s id d)) (raw c (value_at m id))
 
 -- what a rule says of the first operation that it refuses, which is the one of the least id
 abbrev pub first_refusal : (List ℕ → RecordOpTree → Option EditFault) → RecordOps → Option EditFault

@@ -6,6 +6,7 @@
 
 pub mod completion;
 pub mod fault;
+pub mod laws;
 mod rules;
 
 pub use completion::complete;

@@ -5,16 +5,15 @@ ghost use Rattle.rooms_val.specs.Answers.{Gives};
 ghost use Rattle.rooms_val.specs.View.{data_of};
 ghost use Rattle.field_ops.specs.RecordOps.{remove};
 ghost use Rattle.field_ops.specs.ViewRecordOps.{change_of};
-ghost use Rattle.schema_core.specs.Admits.{scope_of};
 ghost use Rattle.schema_core.specs.SchemaOf.{schema_tree};
-ghost use Rattle.side_effects.specs.Completed.{is_of_document, wrong_scope, no_record, invalid, first_refusal, refusal};
+ghost use Rattle.side_effects.specs.Completed.{wrong_scope, no_record, invalid, first_refusal, refusal};
 ghost use Rattle.side_effects.specs.declared.fault.EditFault.TheVariants as edit_fault;
 
 use crate::fault::EditFault;
 use doc_store::DocStore;
 use field_ops::{Diff, RecordOp, apply_record};
 use rooms_val::Text;
-use schema_core::{Schema, Scope};
+use schema_core::Schema;
 use std::alloc::Global;
 
 /// Refuses ids that aren't of document scope.
@@ -22,7 +21,7 @@ pub(crate) fn check_scopes(alloc: Global, schema: &Schema, wanted: &Diff) -> Res
     ensures { Gives edit_fault.OutOfMemory (λ _. tt) result (refusal (first_refusal (wrong_scope (schema_tree schema.now)) wanted.now)) }
 {
     for (id, _) in wanted.as_slice() {
-        if !is_of_document(schema, id) {
+        if !schema.is_document(id.as_str()) {
             return Err(EditFault::WrongScope(id.copy(alloc)?));
         }
     }
@@ -56,20 +55,6 @@ pub(crate) fn check_results<D: DocStore>(
         check_result(alloc, schema, store, id, op)?;
     }
     Ok(())
-}
-
-// Whether the records under an id make up the document.
-fn is_of_document(schema: &Schema, id: &Text) -> bool
-    ensures { result ≡ is_of_document (scope_of (schema_tree schema.now) id.now) }
-{
-    match schema.scope_of(id.as_str()) {
-        Some(scope) => match scope {
-            Scope::Document => true,
-            Scope::Session => false,
-            Scope::Presence => false,
-        },
-        None => false,
-    }
 }
 
 fn check_record<D: DocStore>(
