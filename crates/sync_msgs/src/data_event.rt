@@ -12,23 +12,25 @@ pub enum Action {
     Commit,
     /// Nothing of its diff was accepted, which isn't empty.
     Discard,
-    /// This part of its diff was accepted.
+    /// This was accepted, as the room did it: a part of the diff, or all of it for a client of an older schema. In a
+    /// catch-up it is always empty.
     Rebase(Diff),
 }
 
 /// What an entry of the room's history is to a client.
 #[derive(Drop)]
 pub enum DataEvent {
-    /// Somebody else's diff was accepted.
+    /// What changed that wasn't the client's own: another's push or an end of a session; in a catch-up everything. It
+    /// never has the presence of the client's own session.
     Patch {
         /// What was accepted.
         diff: Diff,
         /// The room's clock after it, from 1.
         server_clock: i64,
     },
-    /// The answer to the client's own push.
+    /// The answer to a push of the client itself.
     PushResult {
-        /// The number of the push among the client's, from 1.
+        /// The number that the push said.
         client_clock: i64,
         /// The room's clock after it, from 1.
         server_clock: i64,
