@@ -1,9 +1,13 @@
-pub mod Documents
-pub mod Readings
+pub mod Schemas
 pub mod Histories
 pub mod Accepting
 pub mod Messages
 pub mod Rooms
+pub mod Replicas
 pub mod Worlds
-pub mod Codes
-pub mod Inverses
+pub mod Acting
+pub mod Taking
+pub mod Reachable
+pub mod Naming
+pub mod Closing
+pub mod Bases

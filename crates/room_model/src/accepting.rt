@@ -1,25 +1,22 @@
-//! Laws of what a room accepts of a push, and of what it sends to a client that connects.
-ghost use Rattle.std.specs.Prelude.{◌≡◌, [], ℕ, List, Bool, length};
-ghost use Rattle.rooms_val.specs.Data.{Data, Pairs};
+//! Laws of what a room accepts of a push.
+ghost use Rattle.std.specs.Prelude.{◌≡◌, ◌⊎◌, ◌↔◌, [], ℕ, List, false};
+ghost use Rattle.rooms_val.specs.Data.{Pairs};
 ghost use Rattle.field_ops.specs.RecordOps.{RecordOps};
-ghost use Rattle.room_model.specs.Accepting.{accepted};
-ghost use Rattle.room_model.specs.Documents.{step};
-ghost use Rattle.room_model.specs.Histories.{History, document_of, folded};
-ghost use Rattle.room_model.specs.Messages.{puts_of};
+ghost use Rattle.doc_model.specs.Documents.{fold_raw, step};
+ghost use Rattle.room_model.specs.Schemas.{Schemas, Plan, Member};
+ghost use Rattle.room_model.specs.Accepting.{accept_ops, document_part, action_of};
+ghost use Rattle.sync_msgs.specs.declared.data_event.Action.TheVariants.{Commit};
 
-/// What is accepted of a diff, folded over the document, makes of it what a step by the diff does, and so does a step by
-/// what is accepted. As many operations as the diff has are the whole diff.
-pub fn accepts_what_acts()
-    ensures folded { (admits : List ℕ → Data → Bool) (document : Pairs) (diff : RecordOps)
-        → folded document (accepted admits document diff) ≡ step admits document diff }
-    ensures acts { (admits : List ℕ → Data → Bool) (document : Pairs) (diff : RecordOps)
-        → step admits document (accepted admits document diff) ≡ step admits document diff }
-    ensures whole { (admits : List ℕ → Data → Bool) (document : Pairs) (diff : RecordOps)
-        → length (accepted admits document diff) ≡ length diff → accepted admits document diff ≡ diff }
+/// Folding what is accepted of a diff is the step by what is accepted: each operation acts.
+pub fn accepts_by_step<F: Drop>()
+    ensures { (schemas : Schemas F) (plan : Plan) (m : Pairs) (diff : RecordOps)
+        → fold_raw m (accept_ops schemas plan m diff) ≡ step schemas.admits m (accept_ops schemas plan m diff) }
 {}
 
-/// The puts of a room's document make it of the empty one.
-pub fn puts_make_the_document()
-    ensures { (admits : List ℕ → Data → Bool) (history : History)
-        → step admits [] (puts_of (document_of history)) ≡ document_of history }
+/// The action of a push is a commit exactly if its diff has no operation, or the session isn't read-only, has the room's
+/// schema, and every operation of the diff was accepted.
+pub fn commits_exactly<F: Drop>()
+    ensures { (schemas : Schemas F) (member : Member) (m : Pairs) (diff : RecordOps)
+        → (action_of member.plan diff (document_part schemas member m diff) ≡ Commit)
+        ↔ ((diff ≡ []) ⊎ ((member.readonly ≡ false) × (member.plan ≡ []) × (accept_ops schemas member.plan m diff ≡ diff))) }
 {}

@@ -2,22 +2,22 @@
 use field_ops::Diff;
 use sync_msgs::Action;
 
-/// Whose push an entry answers.
+/// Of whose push an entry comes.
 #[derive(Drop)]
 pub struct Author {
     /// The number of the session that pushed, from 0.
     pub session: u64,
-    /// The number of the push among the client's, from 1.
+    /// The number that the push said.
     pub client_clock: i64,
     /// What the room made of the push.
     pub action: Action,
 }
 
-/// What a room accepted of a push, or of what else changed its document; perhaps nothing.
+/// What a room accepted of a push, perhaps nothing, or what an end of a session or the room's beginning changed.
 #[derive(Drop)]
 pub struct Entry {
-    /// What was accepted.
+    /// What was accepted, of the document and of the author's presence; its ids rise.
     pub diff: Diff,
-    /// Whose push that answers, if anybody's.
+    /// Of whose push it comes, if of anybody's.
     pub author: Option<Author>,
 }

@@ -1,18 +1,28 @@
-//! The definitions that client, room, world and the running room share: what a diff makes of a document and what undoes it,
-//! what a room's history is, which part of a push is accepted, which messages follow from a history, and what each event
-//! makes of a room, its clients, and what is under way between them.
+//! The definitions that room, client, recordings and world share: what a room's history is, which part of a push is
+//! accepted, which messages follow from a history, what each event makes of a room, its clients and what is in flight
+//! between them, and what is printed.
 //!
-//! They hold for any rule of which records are admitted under which ids, which ids are the document's, and what an edit is
-//! completed to, given as arguments. The crate has definitions
-//! in `specs/`, the types that they share with the code, and laws as functions without code; it stands on `rooms_val`,
-//! `field_ops` and `sync_msgs`.
+//! What schemas decide is an argument of all of them, as one record of functions, so that they hold at any version. The
+//! crate has definitions in `specs/`, the types that they share with the code, and laws as functions without code. It
+//! stands on `rooms_val`, `field_ops`, `doc_model`, `migrate_seq` and `sync_msgs`.
 #![tactic(auto)]
 
 pub mod accepting;
-pub mod documents;
+pub mod acting;
+pub mod bases;
+pub mod connection;
+pub mod event;
+pub mod fault;
+pub mod handled;
+pub mod histories;
 pub mod history;
-pub mod inverses;
-pub mod phase;
+pub mod limits;
+pub mod line;
+pub mod rooms;
 
+pub use connection::Connection;
+pub use event::{Event, Header};
+pub use fault::{ConnectFault, StepFault};
+pub use handled::Handled;
 pub use history::{Author, Entry};
-pub use phase::{Connection, Phase};
+pub use line::OutLine;

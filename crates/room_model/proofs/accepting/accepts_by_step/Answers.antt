@@ -1,0 +1,5 @@
+use Rattle.room_model.proofs.AcceptLemmas.{folded-accepted}
+use Rattle.room_model.proofs.accepting.accepts_by_step.Goals as goal
+
+pub returns : goal.returns
+returns g c = folded-accepted

@@ -1,5 +1,0 @@
-use Rattle.room_model.proofs.InverseLaws.{at-step}
-use Rattle.room_model.proofs.inverses.steps_by_id.Goals as goal
-
-pub returns : goal.returns
-returns c = λ admits document diff id rising. at-step admits diff document id rising

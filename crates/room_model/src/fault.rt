@@ -1,0 +1,34 @@
+//! Why an event can't happen.
+use sync_msgs::EndReason;
+
+/// Why a client can't connect.
+#[derive(Clone, Copy, Debug, PartialEq, Eq)]
+pub enum ConnectFault {
+    /// It has a session, on which it waits or is connected.
+    AlreadyOpen,
+    /// The room ended its session for this reason, and so it connects no more.
+    Refused(EndReason),
+    /// Memory ran out.
+    OutOfMemory,
+}
+
+/// Why an event of a recording can't happen. The fault of an edit is an `F`.
+#[derive(Drop)]
+pub enum StepFault<F: Drop> {
+    /// The client wasn't made.
+    NoSuchClient,
+    /// The session wasn't made or was lost, or the client has no session.
+    NoSuchSession,
+    /// Nothing is in flight, or there is nothing to send.
+    NothingThere,
+    /// The edit or the presence is refused.
+    Edit(F),
+    /// The client can't connect; this is never want of memory.
+    Connect(ConnectFault),
+    /// The client has no mark of this name.
+    NoMark,
+    /// There is no place for a further client or session.
+    Limit,
+    /// Memory ran out.
+    OutOfMemory,
+}
