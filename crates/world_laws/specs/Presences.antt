@@ -1,0 +1,17 @@
+-- Who changes presences, and what entries without author are.
+use Rattle.std.specs.Prelude.{◌≡◌, ℕ, [], ◌∷◌, true, None}
+use Rattle.rooms_val.specs.Maps.{value_at}
+use Rattle.room_model.specs.Schemas.{presence_id}
+use Rattle.room_model.specs.Histories.{History, records_of}
+use Rattle.room_model.specs.Closing.{is_closed}
+use Rattle.room_model.specs.Rooms.{Room, removal}
+
+-- each entry without author removes the presence of a session that is ended in a room, or has left it
+abbrev pub AllRemovals : Room → History → Type 0
+AllRemovals room [] = Unit {0}
+AllRemovals room (entry ∷ history) =
+    (entry.author ≡ None → (number : ℕ) × (entry ≡ removal number) × (is_closed room number ≡ true)) × AllRemovals room history
+
+-- the presence of a session is in both rooms what it is in the other
+abbrev pub HasSamePresence : ℕ → Room → Room → Type 0
+HasSamePresence number before after = value_at (records_of after.history) (presence_id number) ≡ value_at (records_of before.history) (presence_id number)

@@ -1,0 +1,27 @@
+//! Laws of the worlds that can be reached.
+ghost use Rattle.room_model.specs.Schemas.{Schemas, AreLawful};
+ghost use Rattle.room_model.specs.Reachable.{Reachable};
+ghost use Rattle.room_model.specs.Worlds.{World};
+ghost use Rattle.world_laws.specs.Reachable.{ReachableWorld};
+ghost use Rattle.world_laws.specs.Sessions.{AreSessions};
+ghost use Rattle.world_laws.specs.Clocks.{AreClocks};
+
+/// Calls make the room of a world that can be reached, so that the laws of such rooms hold of it.
+pub fn calls_make_the_room<F: Drop>()
+    ensures { (schemas : Schemas F) (world : World)
+        → AreLawful schemas → ReachableWorld schemas world → Reachable schemas world.room }
+{}
+
+/// There is a channel for each session; the current session of each client has entered, and is
+/// that of no other client.
+pub fn sessions_stand<F: Drop>()
+    ensures { (schemas : Schemas F) (world : World)
+        → ReachableWorld schemas world → AreSessions world }
+{}
+
+/// Each client's clock is -1 or at most the room's, and so is all that is in flight to clients; data
+/// ends above where it begins.
+pub fn clocks_stand<F: Drop>()
+    ensures { (schemas : Schemas F) (world : World)
+        → ReachableWorld schemas world → AreClocks world }
+{}
