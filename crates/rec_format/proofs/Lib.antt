@@ -1,0 +1,4 @@
+pub mod RefusalLemmas
+pub mod EventLemmas
+pub mod OneEachLemmas
+pub mod DiffLemmas

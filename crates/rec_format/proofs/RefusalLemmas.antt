@@ -1,0 +1,28 @@
+-- What `?` passes on of a refusal.
+use Rattle.std.proofs.Common.{◌≡◌, Result, Ok, Err, IfErr, IsErrAnd, subst, sym}
+use Rattle.rec_format.specs.Rows.{RefusesRow}
+use Rattle.rec_format.specs.declared.fault.LineFault.{LineFault}
+use Rattle.rec_format.specs.declared.fault.LineFault.TheVariants.{LineTooLong, Val, NoHeader, UnknownEvent, Field, OutOfMemory}
+
+-- a fact holds of every error
+pub any_err : {T E P : Type 0} (r : Result T E) → P → IfErr r (λ _. P)
+any_err (Ok x) p = tt
+any_err (Err e) p = p
+
+-- where a field is ill-formed, the row is refused for what the field shows
+pub ill_formed : {T P : Type 0} (r : Result T LineFault) → IsErrAnd r (λ e. e ≡ Field) → P → IfErr r (RefusesRow P)
+ill_formed (Ok x) is p = tt
+ill_formed {P} (Err e) is p = subst (RefusesRow P) (sym is) p
+
+-- what refuses a part refuses the whole
+pub refuses_more : {P Q : Type 0} (e : LineFault) → (P → Q) → RefusesRow P e → RefusesRow Q e
+refuses_more LineTooLong so p = p
+refuses_more (Val f) so p = p
+refuses_more NoHeader so p = p
+refuses_more UnknownEvent so p = p
+refuses_more Field so p = so p
+refuses_more OutOfMemory so p = p
+
+pub passed_on : {T P Q : Type 0} (r : Result T LineFault) (e : LineFault) → IsErrAnd r (λ f. f ≡ e) → (P → Q) → RefusesRow P e → IfErr r (RefusesRow Q)
+passed_on (Ok x) e is so p = tt
+passed_on {Q} (Err f) e is so p = subst (RefusesRow Q) (sym is) (refuses_more e so p)

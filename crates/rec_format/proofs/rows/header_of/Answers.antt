@@ -1,0 +1,7 @@
+use Rattle.std.proofs.Common.{arith}
+use Rattle.std.proofs.lemmas.Grind.{common_steps}
+use Rattle.rec_format.proofs.RefusalLemmas.{any_err}
+use Rattle.rec_format.proofs.rows.header_of.Goals as goal
+
+pub returns-in_err-number_in-clause-only : goal.returns-in_err-number_in-clause-only
+returns-in_err-number_in-clause-only c = any_err c.from_residual.result (λ h within is. c.in_err-number_in.ensures.only 1 (grind (arith, common_steps)))

@@ -1,0 +1,26 @@
+-- The laws of lines, each the contract of a function of `laws.rt`.
+use Rattle.std.specs.Prelude.{◌≡◌, ℕ, List, Result, IfOk, IfErr, MatchResult}
+use Rattle.room_model.specs.declared.event.Event.{Event}
+use Rattle.room_model.specs.declared.event.Header.{Header}
+use Rattle.rec_format.specs.Events.{event_val, header_val}
+use Rattle.rec_format.specs.Lines.{IsEvent, IsHeader, RefusesLine, RefusesHeader}
+use Rattle.rec_format.specs.declared.fault.LineFault.{LineFault}
+use Rattle.rec_format.specs.declared.fault.LineFault.TheVariants as line_fault
+
+-- each value is that of one event at most
+abbrev pub OneEventEach : Type 0
+OneEventEach = (a b : Event) → event_val a ≡ event_val b → a ≡ b
+
+-- each value is that of one header at most
+abbrev pub OneHeaderEach : Type 0
+OneHeaderEach = (a b : Header) → header_val a ≡ header_val b → a ≡ b
+
+-- an answer that keeps the contract of `read_line` is, for a line that stands for an event, this event or want of memory
+abbrev pub ReadsTheEvent : Type 0
+ReadsTheEvent = (line : List ℕ) (r : Result Event LineFault) → IfOk r (IsEvent line) → IfErr r (RefusesLine line)
+    → (e : Event) → IsEvent line e → MatchResult r (λ x. x ≡ e) (λ f. f ≡ line_fault.OutOfMemory)
+
+-- the same of `read_header`
+abbrev pub ReadsTheHeader : Type 0
+ReadsTheHeader = (line : List ℕ) (r : Result Header LineFault) → IfOk r (IsHeader line) → IfErr r (RefusesHeader line)
+    → (h : Header) → IsHeader line h → MatchResult r (λ x. x ≡ h) (λ f. f ≡ line_fault.OutOfMemory)

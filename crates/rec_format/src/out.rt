@@ -1,0 +1,144 @@
+//! The printing of lines, each without its newline.
+ghost use Rattle.std.specs.Prelude.{◌≡◌, IfOk, option_map};
+ghost use Rattle.rooms_val.specs.Data.{text};
+ghost use Rattle.rooms_val.specs.View.{data_of};
+ghost use Rattle.rec_format.specs.Outs.{reason_text, line_fields, line_text};
+ghost use Rattle.rec_format.specs.Outs.{undo_fields, redo_fields, ended_fields, fault_fields};
+ghost use Rattle.rec_format.specs.Outs.{clock_and_doc, show_fields, end_fields, ending_fields};
+ghost use Rattle.rec_format.specs.Printing.{Fits, IsPrintableLine};
+
+use crate::fields::{number, with};
+use room_model::OutLine;
+use rooms_val::{Fields, Mem, Text, Val};
+use std::alloc::Global;
+use sync_msgs::EndReason;
+
+/// The text of a line. `None` exactly where it is a message of a trace, `From` or `To`: the text of
+/// messages isn't made yet. It costs what is printed.
+///
+/// A number from 2^63 on is printed as 2^63 - 1.
+pub fn print_out(alloc: Global, line: &OutLine) -> Mem<Option<Vec<u8>>>
+    ensures { IfOk result (λ printed. IsPrintableLine line.now
+        → option_map (λ text. text.items) printed ≡ line_text line.now) }
+{
+    match fields_of(alloc, line)? {
+        Some(fields) => Ok(Some(Val::Map(fields).print(alloc)?)),
+        None => Ok(None),
+    }
+}
+
+// The fields of a line.
+fn fields_of(alloc: Global, line: &OutLine) -> Mem<Option<Fields>>
+    ensures { IfOk result (λ fields. IsPrintableLine line.now → fields ≡ line_fields line.now) }
+{
+    match line {
+        OutLine::Undo { client, done } => Ok(Some(undo_fields(alloc, *client, *done)?)),
+        OutLine::Redo { client, done } => Ok(Some(redo_fields(alloc, *client, *done)?)),
+        OutLine::Ended { client, reason } => Ok(Some(ended_fields(alloc, *client, *reason)?)),
+        OutLine::Show {
+            client,
+            clock,
+            doc,
+            others,
+            owed,
+        } => { Ok(Some(show_fields(alloc, *client, *clock, doc, others, *owed)?)) }
+        OutLine::End {
+            clock,
+            doc,
+            presence,
+        } => Ok(Some(end_fields(alloc, *clock, doc, presence)?)),
+        OutLine::From { .. } => Ok(None),
+        OutLine::To { .. } => Ok(None),
+        OutLine::Ending { session, reason } => Ok(Some(ending_fields(alloc, *session, *reason)?)),
+        OutLine::Fault { at, text } => Ok(Some(fault_fields(alloc, *at, text)?)),
+    }
+}
+
+fn undo_fields(alloc: Global, client: u64, done: bool) -> Mem<Fields>
+    ensures { IfOk result (λ fields. Fits client → fields ≡ undo_fields client done) }
+{
+    let fields = with(alloc, Fields::new(alloc), "client", number(client))?;
+    with(alloc, fields, "undo", Val::Bool(done))
+}
+
+fn redo_fields(alloc: Global, client: u64, done: bool) -> Mem<Fields>
+    ensures { IfOk result (λ fields. Fits client → fields ≡ redo_fields client done) }
+{
+    let fields = with(alloc, Fields::new(alloc), "client", number(client))?;
+    with(alloc, fields, "redo", Val::Bool(done))
+}
+
+fn ended_fields(alloc: Global, client: u64, reason: EndReason) -> Mem<Fields>
+    ensures { IfOk result (λ fields. Fits client → fields ≡ ended_fields client reason) }
+{
+    let fields = with(alloc, Fields::new(alloc), "client", number(client))?;
+    with(alloc, fields, "ended", reason_val(alloc, reason)?)
+}
+
+fn show_fields(
+    alloc: Global,
+    client: u64,
+    clock: i64,
+    doc: &Val,
+    others: &Val,
+    owed: u64,
+) -> Mem<Fields>
+    ensures { IfOk result (λ fields. Fits client → Fits owed
+        → fields ≡ show_fields client clock (data_of doc.now) (data_of others.now) owed) }
+{
+    let fields = clock_and_doc(alloc, Val::Int(clock), doc)?;
+    let fields = with(alloc, fields, "others", others.copy(alloc)?)?;
+    let fields = with(alloc, fields, "owed", number(owed))?;
+    Ok(with(alloc, fields, "show", number(client))?)
+}
+
+fn end_fields(alloc: Global, clock: i64, doc: &Val, presence: &Val) -> Mem<Fields>
+    ensures { IfOk result (λ fields.
+        fields ≡ end_fields clock (data_of doc.now) (data_of presence.now)) }
+{
+    let fields = clock_and_doc(alloc, Val::Int(clock), doc)?;
+    let fields = with(alloc, fields, "end", Val::Bool(true))?;
+    with(alloc, fields, "presence", presence.copy(alloc)?)
+}
+
+// The fields that a client and the room show alike.
+fn clock_and_doc(alloc: Global, clock: Val, doc: &Val) -> Mem<Fields>
+    ensures { IfOk result (λ fields. fields ≡ clock_and_doc (data_of clock) (data_of doc.now)) }
+{
+    let fields = with(alloc, Fields::new(alloc), "clock", clock)?;
+    with(alloc, fields, "doc", doc.copy(alloc)?)
+}
+
+fn ending_fields(alloc: Global, session: u64, reason: EndReason) -> Mem<Fields>
+    ensures { IfOk result (λ fields. Fits session → fields ≡ ending_fields session reason) }
+{
+    let fields = with(alloc, Fields::new(alloc), "end", reason_val(alloc, reason)?)?;
+    with(alloc, fields, "to", number(session))
+}
+
+fn fault_fields(alloc: Global, at: u64, name: &Text) -> Mem<Fields>
+    ensures { IfOk result (λ fields. Fits at → fields ≡ fault_fields at name.now) }
+{
+    let fields = with(alloc, Fields::new(alloc), "at", number(at))?;
+    with(alloc, fields, "fault", Val::Text(name.copy(alloc)?))
+}
+
+// The name of a reason, as a value.
+fn reason_val(alloc: Global, reason: EndReason) -> Mem<Val>
+    ensures { IfOk result (λ v. data_of v ≡ text (reason_text reason)) }
+{
+    Ok(Val::Text(Text::of(alloc, reason_text(reason))?))
+}
+
+// The name of a reason.
+fn reason_text(reason: EndReason) -> &'static str
+    ensures { result.now ≡ reason_text reason }
+{
+    match reason {
+        EndReason::ClientTooOld => "CLIENT_TOO_OLD",
+        EndReason::ServerTooOld => "SERVER_TOO_OLD",
+        EndReason::InvalidRecord => "INVALID_RECORD",
+        EndReason::RoomFull => "ROOM_FULL",
+        EndReason::Slow => "SLOW",
+    }
+}

@@ -1,0 +1,100 @@
+//! The printing of events, each without a newline.
+ghost use Rattle.std.specs.Prelude.{◌≡◌, ◌≤◌, [], ◌∷◌, length, IfOk};
+ghost use Rattle.rooms_val.specs.Json.{text_of};
+ghost use Rattle.rec_format.specs.Events.{event_val, event_fields, IsProper};
+ghost use Rattle.rec_format.specs.Events.{does, of_client, of_session, with_name};
+ghost use Rattle.rec_format.specs.Lines.{IsEvent};
+ghost use Rattle.rec_format.specs.Printing.{Fits, IsPrintable, IsReadable};
+
+use crate::fields::{number, with};
+use crate::read::LONGEST_LINE;
+use crate::verb::Verb;
+use field_ops::diff_val;
+use room_model::Event;
+use rooms_val::{Fields, Mem, Text, Val};
+use std::alloc::Global;
+
+/// The line of an event. It costs what is printed.
+///
+/// A number of a client or session from 2^63 on is printed as 2^63 - 1; every other event has its
+/// own line.
+pub fn print_event(alloc: Global, event: &Event) -> Mem<Vec<u8>>
+    ensures text { IfOk result (λ line. IsPrintable event.now
+        → line.items ≡ text_of (event_val event.now)) }
+    // It is read as the event, where it isn't too long and its numbers and depth are in range.
+    ensures reads_back { IfOk result (λ line. IsPrintable event.now → IsProper event.now
+        → IsReadable (event_val event.now) → length line.items ≤ LONGEST_LINE
+        → IsEvent line.items event.now) }
+{
+    let fields = fields_of(alloc, event)?;
+    Ok(Val::Map(fields).print(alloc)?)
+}
+
+// The fields of an event.
+fn fields_of(alloc: Global, event: &Event) -> Mem<Fields>
+    ensures { IfOk result (λ fields. IsPrintable event.now → fields ≡ event_fields event.now) }
+{
+    match event {
+        Event::Client { version } => {
+            let fields = verb_alone(alloc, Verb::Client)?;
+            with(alloc, fields, "version", Val::Int(i64::from(*version)))
+        }
+        Event::Connect { client, readonly } => {
+            let fields = of_client(alloc, Verb::Connect, *client)?;
+            with(alloc, fields, "readonly", Val::Bool(*readonly))
+        }
+        Event::Edit { client, diff } => {
+            let fields = of_client(alloc, Verb::Edit, *client)?;
+            with(alloc, fields, "diff", diff_val(alloc, diff)?)
+        }
+        Event::Presence { client, record_ } => {
+            let fields = of_client(alloc, Verb::Presence, *client)?;
+            with(alloc, fields, "record", record_.copy(alloc)?)
+        }
+        Event::Mark { client, name } => of_client_and_name(alloc, Verb::Mark, *client, name),
+        Event::Undo { client } => of_client(alloc, Verb::Undo, *client),
+        Event::Redo { client } => of_client(alloc, Verb::Redo, *client),
+        Event::Bail { client, name } => of_client_and_name(alloc, Verb::Bail, *client, name),
+        Event::Handle { session } => of_session(alloc, Verb::Handle, *session),
+        Event::Send { session } => of_session(alloc, Verb::Send, *session),
+        Event::Deliver { client } => of_client(alloc, Verb::Deliver, *client),
+        Event::Cut { client } => of_client(alloc, Verb::Cut, *client),
+        Event::Lose { session } => of_session(alloc, Verb::Lose, *session),
+        Event::Show { client } => of_client(alloc, Verb::Show, *client),
+        Event::End => verb_alone(alloc, Verb::End),
+    }
+}
+
+// The fields of an event that has no other.
+fn verb_alone(alloc: Global, verb: Verb) -> Mem<Fields>
+    ensures { IfOk result (λ fields. fields ≡ does verb ∷ []) }
+{
+    with(
+        alloc,
+        Fields::new(alloc),
+        "do",
+        Val::Text(Text::of(alloc, verb.word())?),
+    )
+}
+
+// The fields of an event of a client that has no further one.
+fn of_client(alloc: Global, verb: Verb, client: u64) -> Mem<Fields>
+    ensures { IfOk result (λ fields. Fits client → fields ≡ of_client verb client) }
+{
+    with(alloc, verb_alone(alloc, verb)?, "client", number(client))
+}
+
+// The fields of an event of a client that has a name.
+fn of_client_and_name(alloc: Global, verb: Verb, client: u64, name: &Text) -> Mem<Fields>
+    ensures { IfOk result (λ fields. Fits client → fields ≡ with_name verb client name.now) }
+{
+    let fields = of_client(alloc, verb, client)?;
+    with(alloc, fields, "name", Val::Text(name.copy(alloc)?))
+}
+
+// The fields of an event of a session.
+fn of_session(alloc: Global, verb: Verb, session: u64) -> Mem<Fields>
+    ensures { IfOk result (λ fields. Fits session → fields ≡ of_session verb session) }
+{
+    with(alloc, verb_alone(alloc, verb)?, "session", number(session))
+}
