@@ -1,12 +1,16 @@
 //! Standard input and standard output, or any reader and writer of std in their place.
-ghost use Rattle.std.specs.Prelude.{◌≡◌, ℕ, ◌+◌, ◌^◌, ◌-◌, ◌<◌, ◌↔◌, None, IfOk, OnErr, IsOk};
+ghost use Rattle.std.specs.Prelude.{◌≡◌, ℕ, ◌+◌, ◌^◌, ◌-◌, ◌<◌, ◌≤◌, ◌↔◌, [], None, length, IfOk, OnErr, IsOk};
+ghost use Rattle.std.specs.Io.KnownBytes.{ReadConsumes, WriteAppends};
+ghost use Rattle.room_link.specs.Held.{Extends, taken_of};
+ghost use Rattle.room_link.specs.Standard.{reader_of, source_faults, writer_of, sink_faults};
 
 use crate::Failed;
 use crate::sink::Sink;
 use crate::source::Source;
 use std::io::{Read, Write};
 
-/// A source over a reader, as `StandardInput::new(rt.reader())`. It tells nothing of the bytes.
+/// A source over a reader, as `StandardInput::new(rt.reader())`. It tells nothing of what is left,
+/// but passes on what the reader tells of each read.
 #[derive(Drop)]
 pub struct StandardInput<R> {
     reader: R,
@@ -14,7 +18,7 @@ pub struct StandardInput<R> {
 }
 
 /// A sink over a writer that keeps nothing back, as `StandardOutput::new(io::writer(&rt))`. It
-/// tells nothing of the bytes.
+/// tells nothing of what it holds, but passes on what the writer tells of each write.
 #[derive(Drop)]
 pub struct StandardOutput<W> {
     writer: W,
@@ -47,12 +51,22 @@ impl<R: Read> StandardInput<R> {
 }
 
 impl<R: Read> Source for StandardInput<R> {
-    ghost faults = { λ input. input.faults };
+    ghost faults = { source_faults };
 
     ghost left = { λ _. None };
 
     /// After 2^64 − 1 faults, which is the end of the count, a fault is the end of input.
-    fn read(&mut self, buf: &mut [u8]) -> Result<usize, Failed> {
+    fn read(&mut self, buf: &mut [u8]) -> Result<usize, Failed>
+        // What the reader tells of the read holds of the answer.
+        ensures given { source_faults self.old < u64.MAX
+            → ReadConsumes (R.remaining (reader_of self.old)) (R.remaining (reader_of self.new)) result buf.new }
+
+        // As at any source.
+        ensures faults_stay { source_faults self.old ≤ source_faults self.new }
+        ensures failed { OnErr result (source_faults self.old < source_faults self.new) }
+        ensures bound { IfOk result (λ n. n ≤ length buf.new) }
+        ensures bytes { ReadConsumes None None result buf.new }
+    {
         match self.reader.read(buf) {
             Ok(n) => Ok(n),
             Err(_) => counted(&mut self.faults, 0),
@@ -70,12 +84,23 @@ impl<W: Write> StandardOutput<W> {
 }
 
 impl<W: Write> Sink for StandardOutput<W> {
-    ghost faults = { λ output. output.faults };
+    ghost faults = { sink_faults };
 
     ghost held = { λ _. None };
 
     /// After 2^64 − 1 faults, which is the end of the count, bytes that can't be written are let go.
-    fn write(&mut self, bytes: &[u8]) -> Result<usize, Failed> {
+    fn write(&mut self, bytes: &[u8]) -> Result<usize, Failed>
+        // What the writer tells of the write holds of the answer.
+        ensures given { sink_faults self.old < u64.MAX
+            → WriteAppends (W.contents (writer_of self.old)) (W.contents (writer_of self.new)) result bytes.now }
+
+        // As at any sink.
+        ensures faults_stay { sink_faults self.old ≤ sink_faults self.new }
+        ensures failed { OnErr result (sink_faults self.old < sink_faults self.new) }
+        ensures bound { IfOk result (λ n. n ≤ length bytes.now) }
+        ensures goes_on { IfOk result (λ n. n ≡ 0 → bytes.now ≡ []) }
+        ensures held { Extends None None (taken_of result bytes.now) }
+    {
         if bytes.is_empty() {
             return Ok(0);
         }
