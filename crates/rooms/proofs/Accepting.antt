@@ -1,16 +1,14 @@
 -- Operations that are accepted one after another, and records that are put one after another.
 use Rattle.std.proofs.Common.{◌≡◌, ℕ, Bool, true, false, ◌&&◌, cond, T, List, [], ◌∷◌, ◌++◌, refl, sym, ap, subst, ◌∙◌, append_assoc}
 use Rattle.std.specs.FinMap.Entries.{below_all}
-use Rattle.rooms_val.proofs.Places.{order, first, second}
+use Rattle.rooms_val.specs.Maps.{order, value_at, AreRising, set_at, with_key}
+use Rattle.rooms_val.proofs.MapsLemmas.{first, second, put_last, rising_on, rising_without}
 use Rattle.rooms_val.specs.Data.{Data, Pairs}
-use Rattle.rooms_val.specs.Maps.{get}
 use Rattle.field_ops.specs.RecordOps.{RecordOpTree, put, RecordOps}
-use Rattle.field_ops.specs.Entries.{AreRising, set_at, with_key}
 use Rattle.field_ops.specs.Patched.{raw}
-use Rattle.room_model.specs.Accepting.{accepted}
-use Rattle.room_model.specs.Documents.{acts, stepped, step}
-use Rattle.room_model.specs.Messages.{puts_of}
-use Rattle.room_model.proofs.Rising.{put_last, rising_on, rising_without}
+use Rattle.first_model.specs.Accepting.{accepted}
+use Rattle.doc_model.specs.Documents.{acts, step_at as stepped, step}
+use Rattle.first_model.specs.Messages.{puts_of}
 use Rattle.rooms.specs.Clients.{is_admitted}
 
 -- a document and a part that were made so far, and the operations that are left
@@ -22,7 +20,7 @@ pub record Accepts (old : Pairs) (diff : RecordOps) (document : Pairs) (part lef
 pub accepts_next : (old : Pairs) (diff : RecordOps) (document next : Pairs) (part more : RecordOps) (k : List ℕ) (c : RecordOpTree) (left : RecordOps) → Accepts old diff document part ((k, c) ∷ left)
     → next ≡ stepped is_admitted document k c → more ≡ cond (acts is_admitted document k c) (with_key part k c) part → Accepts old diff next more left
 accepts_next old diff document next part more k c left so_far done joined =
-    let set = set_at document k (raw c (get document k)) in
+    let set = set_at document k (raw c (value_at document k)) in
     elim (acts is_admitted document k c) as (λ b. step is_admitted (cond b set document) left ≡ step is_admitted old diff
     → part ++ cond b ((k, c) ∷ accepted is_admitted (cond b set document) left) (accepted is_admitted document left) ≡ accepted is_admitted old diff
     → next ≡ cond b set document → more ≡ cond b (with_key part k c) part → Accepts old diff next more left) [

@@ -5,14 +5,14 @@ use Rattle.std.specs.Result.{result_ok, result_err}
 use Rattle.rooms_val.specs.Data.{Pairs}
 use Rattle.field_ops.specs.RecordOps.{RecordOpTree, put, patch, remove, RecordOps}
 use Rattle.schema_core.specs.Admits as schema
-use Rattle.schema_core.specs.Admits.{scope_of, admission}
+use Rattle.schema_core.specs.Admits.{is_of_document, scope_of, admission}
 use Rattle.schema_core.specs.Tree.{SchemaTree}
 use Rattle.schema_core.specs.declared.row.Scope.{Scope}
 use Rattle.schema_core.specs.declared.fault.RecordFault.{RecordFault}
-use Rattle.side_effects.specs.Completed.{is_of_document, wrong_scope, no_record, invalid, first_refusal, unless}
+use Rattle.side_effects.specs.Completed.{wrong_scope, no_record, invalid, first_refusal, unless}
 use Rattle.side_effects.specs.declared.fault.EditFault.{EditFault}
 use Rattle.side_effects.specs.declared.fault.EditFault.TheVariants.{TooMany, Invalid, WrongScope}
-use Rattle.room_model.specs.Accepting.{are_fit, puts_admitted}
+use Rattle.first_model.specs.Accepting.{are_fit, puts_admitted}
 use Rattle.rooms.specs.Rules.{whiteboard, is_admitted, is_document, completes}
 
 -- an edit that is completed breaks no rule, and stays as it is

@@ -8,27 +8,27 @@ use Rattle.std.proofs.lemmas.List.Folds.{list_all-append}
 use Rattle.std.specs.List.{list_all, count_by}
 use Rattle.std.specs.Option.{option_and_then}
 use Rattle.field_ops.specs.RecordOps.{RecordOps}
-use Rattle.room_model.specs.Accepting.{are_fit}
-use Rattle.room_model.specs.Documents.{step}
-use Rattle.room_model.specs.Histories.{History, document_of, folded_all, up_to, is_by}
-use Rattle.room_model.specs.Messages.{events_after}
-use Rattle.room_model.specs.Rooms.{Room, Notice, answer_at, news_between}
-use Rattle.room_model.specs.Worlds as model
-use Rattle.room_model.specs.Worlds.{Client, Link, most_pushes, pushes_of, authored_between, session_of}
-use Rattle.room_model.specs.declared.phase.Phase.{Phase}
-use Rattle.room_model.specs.declared.phase.Phase.TheVariants.{New, Asked, Live}
-use Rattle.room_model.specs.declared.phase.Connection.{Connection}
-use Rattle.room_model.specs.declared.phase.Connection.TheVariants.{Off, Asking, Open}
-use Rattle.room_model.proofs.Folding.{folded_all-append}
+use Rattle.first_model.specs.Accepting.{are_fit}
+use Rattle.doc_model.specs.Documents.{step}
+use Rattle.first_model.specs.Histories.{History, document_of, folded_all, up_to, is_by}
+use Rattle.first_model.specs.Messages.{events_after}
+use Rattle.first_model.specs.Rooms.{Room, Notice, answer_at, news_between}
+use Rattle.first_model.specs.Worlds as model
+use Rattle.first_model.specs.Worlds.{Client, Link, most_pushes, pushes_of, authored_between, session_of}
+use Rattle.first_model.specs.declared.phase.Phase.{Phase}
+use Rattle.first_model.specs.declared.phase.Phase.TheVariants.{New, Asked, Live}
+use Rattle.first_model.specs.declared.phase.Connection.{Connection}
+use Rattle.first_model.specs.declared.phase.Connection.TheVariants.{Off, Asking, Open}
+use Rattle.first_model.proofs.Folding.{folded_all-append}
 use Rattle.rooms.specs.Clients.{is_document, is_admitted, Held, Holding, after_message, after_events, opened, unpushed, unpushed_on, after_pushes}
 use Rattle.rooms.specs.Standing.{AllActed, Holds, Flows, Waits, Meets, MeetsLive, Tells, AllTell, AllPush, AllSettle, Leads, together, StandsFor}
 use Rattle.rooms.specs.declared.world.Link as code
 use Rattle.rooms.proofs.Edits.{Becomes, both_true}
 use Rattle.rooms.proofs.Following.{settle_front, settle_rest, settle_count, settle_length, acted_front, acted_rest, after_answers}
 use Rattle.rooms.proofs.Pushing.{pushes_of-full}
-use Rattle.sync_msgs.specs.declared.client_message.ClientMessage.TheVariants.{Push}
-use Rattle.sync_msgs.specs.declared.server_message.ServerMessage.{ServerMessage}
-use Rattle.sync_msgs.specs.declared.server_message.ServerMessage.TheVariants as message
+use Rattle.first_msgs.specs.declared.client_message.ClientMessage.TheVariants.{Push}
+use Rattle.first_msgs.specs.declared.server_message.ServerMessage.{ServerMessage}
+use Rattle.first_msgs.specs.declared.server_message.ServerMessage.TheVariants as message
 
 -- what of some diffs is pushed, and what is left where no number is
 record Split (count : ℕ) (diffs : List RecordOps) : Type 0 where

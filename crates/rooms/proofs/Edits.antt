@@ -4,25 +4,25 @@ use Rattle.std.proofs.Math.Seq.{drop-append_seam}
 use Rattle.std.proofs.lemmas.Bool.Decides.{nat_tests}
 use Rattle.std.proofs.lemmas.List.Folds.{list_all-append}
 use Rattle.field_ops.specs.RecordOps.{RecordOps}
-use Rattle.room_model.specs.Accepting.{are_fit}
-use Rattle.room_model.specs.Documents.{replayed}
+use Rattle.first_model.specs.Accepting.{are_fit}
+use Rattle.doc_model.specs.Documents.{replay as replayed}
 use Rattle.rooms.proofs.Completing.{fits}
-use Rattle.room_model.specs.Histories.{History}
-use Rattle.room_model.specs.Rooms.{Room, empty_room}
-use Rattle.room_model.specs.Worlds as model
-use Rattle.room_model.specs.Worlds.{Client, Link, most_pushes, pushes_of, held, owing}
-use Rattle.room_model.specs.declared.phase.Phase.{Phase}
-use Rattle.room_model.specs.declared.phase.Phase.TheVariants.{New, Asked, Live}
-use Rattle.room_model.specs.declared.phase.Connection.{Connection}
-use Rattle.room_model.specs.declared.phase.Connection.TheVariants.{Off, Asking, Open}
+use Rattle.first_model.specs.Histories.{History}
+use Rattle.first_model.specs.Rooms.{Room, empty_room}
+use Rattle.first_model.specs.Worlds as model
+use Rattle.first_model.specs.Worlds.{Client, Link, most_pushes, pushes_of, held, owing}
+use Rattle.first_model.specs.declared.phase.Phase.{Phase}
+use Rattle.first_model.specs.declared.phase.Phase.TheVariants.{New, Asked, Live}
+use Rattle.first_model.specs.declared.phase.Connection.{Connection}
+use Rattle.first_model.specs.declared.phase.Connection.TheVariants.{Off, Asking, Open}
 use Rattle.rooms.specs.Clients as clients
 use Rattle.rooms.specs.Clients.{completes, is_document, is_admitted, Holding, shown, unpushed, unpushed_on, after_pushes}
 use Rattle.rooms.specs.Standing.{AllActed, Holds, Flows, Waits, Meets, MeetsLive, AllTell, AllPush, alone, together, Together, StandsFor, PushesUp}
 use Rattle.rooms.specs.declared.world.Link as code
 use Rattle.rooms.proofs.Following.{push_last}
 use Rattle.rooms.proofs.Pushing.{pushes_of-full}
-use Rattle.sync_msgs.specs.declared.client_message.ClientMessage.{ClientMessage}
-use Rattle.sync_msgs.specs.declared.client_message.ClientMessage.TheVariants.{Push}
+use Rattle.first_msgs.specs.declared.client_message.ClientMessage.{ClientMessage}
+use Rattle.first_msgs.specs.declared.client_message.ClientMessage.TheVariants.{Push}
 
 pub both_true : (a b : Bool) → (a && b) ≡ true → (a ≡ true) × (b ≡ true)
 both_true true b is = (refl, is)

@@ -6,21 +6,22 @@ use Rattle.std.proofs.lemmas.List.{take-append-le}
 use Rattle.std.specs.List.{count_by}
 use Rattle.rooms_val.specs.Data.{Pairs}
 use Rattle.field_ops.specs.RecordOps.{RecordOps}
-use Rattle.room_model.specs.Documents.{step}
-use Rattle.room_model.specs.Histories.{History, folded, folded_all, document_of, is_author, is_by}
-use Rattle.room_model.specs.Messages.{events_after, event_by, puts_of}
-use Rattle.room_model.specs.Rooms.{Notice, answer_at, news_between}
-use Rattle.room_model.specs.declared.history.Author.{Author}
-use Rattle.room_model.specs.declared.history.Entry.{Entry}
+use Rattle.doc_model.specs.Documents.{step}
+use Rattle.first_model.specs.Histories.{History, folded_all, document_of, is_author, is_by}
+use Rattle.doc_model.specs.Documents.{fold_raw as folded}
+use Rattle.first_model.specs.Messages.{events_after, event_by, puts_of}
+use Rattle.first_model.specs.Rooms.{Notice, answer_at, news_between}
+use Rattle.first_model.specs.declared.history.Author.{Author}
+use Rattle.first_model.specs.declared.history.Entry.{Entry}
 use Rattle.rooms.specs.Clients.{is_admitted, Held, after_event, after_events, settled}
 use Rattle.rooms.specs.Standing.{AllActed, Tells, AllTell, Settles, SettlesBy, AllSettle, AllPush, Leads}
-use Rattle.sync_msgs.specs.declared.data_event.Action.{Action}
-use Rattle.sync_msgs.specs.declared.data_event.Action.TheVariants.{Commit, Discard, Rebase}
-use Rattle.sync_msgs.specs.declared.data_event.DataEvent.TheVariants.{Patch, PushResult}
-use Rattle.sync_msgs.specs.declared.client_message.ClientMessage.{ClientMessage}
-use Rattle.sync_msgs.specs.declared.client_message.ClientMessage.TheVariants.{Connect, Push}
-use Rattle.sync_msgs.specs.declared.server_message.ServerMessage.{ServerMessage}
-use Rattle.sync_msgs.specs.declared.server_message.ServerMessage.TheVariants as message
+use Rattle.first_msgs.specs.declared.data_event.Action.{Action}
+use Rattle.first_msgs.specs.declared.data_event.Action.TheVariants.{Commit, Discard, Rebase}
+use Rattle.first_msgs.specs.declared.data_event.DataEvent.TheVariants.{Patch, PushResult}
+use Rattle.first_msgs.specs.declared.client_message.ClientMessage.{ClientMessage}
+use Rattle.first_msgs.specs.declared.client_message.ClientMessage.TheVariants.{Connect, Push}
+use Rattle.first_msgs.specs.declared.server_message.ServerMessage.{ServerMessage}
+use Rattle.first_msgs.specs.declared.server_message.ServerMessage.TheVariants as message
 
 -- a front of a list is the same front of a longer one
 pub front-same : {X : Type 0} (n : ℕ) (xs ys : List X) → n ≤ length xs → take n (xs ++ ys) ≡ take n xs

@@ -5,17 +5,17 @@ use Rattle.std.proofs.lemmas.List.{drop-append-le}
 use Rattle.std.proofs.lemmas.List.Folds.{list_all-append}
 use Rattle.std.specs.List.{list_all}
 use Rattle.field_ops.specs.RecordOps.{RecordOps}
-use Rattle.room_model.specs.Accepting.{accepted, action_of, are_fit}
-use Rattle.room_model.specs.Histories.{History, document_of, up_to}
-use Rattle.room_model.specs.Rooms.{Room, after_message, entry_of}
-use Rattle.room_model.specs.Worlds as model
-use Rattle.room_model.specs.Worlds.{Client, Link}
-use Rattle.room_model.specs.declared.history.Entry.{Entry}
-use Rattle.room_model.specs.declared.phase.Phase.{Phase}
-use Rattle.room_model.specs.declared.phase.Phase.TheVariants.{New, Asked, Live}
-use Rattle.room_model.specs.declared.phase.Connection.{Connection}
-use Rattle.room_model.specs.declared.phase.Connection.TheVariants.{Off, Asking, Open}
-use Rattle.room_model.proofs.Folding.{folded-accepted, step-accepted, all_accepted}
+use Rattle.first_model.specs.Accepting.{accepted, action_of, are_fit}
+use Rattle.first_model.specs.Histories.{History, document_of, up_to}
+use Rattle.first_model.specs.Rooms.{Room, after_message, entry_of}
+use Rattle.first_model.specs.Worlds as model
+use Rattle.first_model.specs.Worlds.{Client, Link}
+use Rattle.first_model.specs.declared.history.Entry.{Entry}
+use Rattle.first_model.specs.declared.phase.Phase.{Phase}
+use Rattle.first_model.specs.declared.phase.Phase.TheVariants.{New, Asked, Live}
+use Rattle.first_model.specs.declared.phase.Connection.{Connection}
+use Rattle.first_model.specs.declared.phase.Connection.TheVariants.{Off, Asking, Open}
+use Rattle.first_model.proofs.Folding.{folded-accepted, step-accepted, all_accepted}
 use Rattle.rooms.specs.Clients.{is_document, is_admitted, Holding}
 use Rattle.rooms.specs.Handling.{Handles}
 use Rattle.rooms.specs.Standing.{AllActed, Holds, Flows, Meets, MeetsLive, AllTell, AllPush, AllSettle, Settles, together, StandsFor}
@@ -23,9 +23,9 @@ use Rattle.rooms.specs.declared.world.Link as code
 use Rattle.rooms.specs.declared.room.Handled.{Handled}
 use Rattle.rooms.proofs.Edits.{Becomes, both_true}
 use Rattle.rooms.proofs.Following.{front-same, all_tell_still, settle_last, acted_last}
-use Rattle.sync_msgs.specs.declared.client_message.ClientMessage.{ClientMessage}
-use Rattle.sync_msgs.specs.declared.client_message.ClientMessage.TheVariants.{Connect, Push}
-use Rattle.sync_msgs.specs.declared.data_event.Action.TheVariants.{Commit, Discard, Rebase}
+use Rattle.first_msgs.specs.declared.client_message.ClientMessage.{ClientMessage}
+use Rattle.first_msgs.specs.declared.client_message.ClientMessage.TheVariants.{Connect, Push}
+use Rattle.first_msgs.specs.declared.data_event.Action.TheVariants.{Commit, Discard, Rebase}
 use Rattle.rooms_val.specs.Data.{Pairs}
 
 empty : (diff : RecordOps) → length diff ≡ 0 → diff ≡ []

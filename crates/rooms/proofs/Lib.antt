@@ -14,3 +14,4 @@ pub mod Replying
 pub mod Sends
 pub mod Handles
 pub mod Delivers
+pub mod ReadingLemmas

@@ -2,13 +2,13 @@
 use Rattle.std.proofs.Common.{◌≡◌, ℕ, ◌+◌, ◌<◌, ◌≤◌, nat_lt, true, false, List, [], ◌∷◌, drop, length, Some, None, slice_get, pos, refl, sym, ap, ◌∙◌, arith}
 use Rattle.std.proofs.lemmas.Bool.Decides.{nat_tests}
 use Rattle.field_ops.specs.RecordOps.{RecordOps}
-use Rattle.room_model.specs.Worlds.{pushes_of, most_pushes}
-use Rattle.room_model.specs.declared.phase.Connection.{Connection}
-use Rattle.room_model.specs.declared.phase.Connection.TheVariants.{Off, Asking, Open}
+use Rattle.first_model.specs.Worlds.{pushes_of, most_pushes}
+use Rattle.first_model.specs.declared.phase.Connection.{Connection}
+use Rattle.first_model.specs.declared.phase.Connection.TheVariants.{Off, Asking, Open}
 use Rattle.rooms.specs.Clients.{Held, Holding, is_open, unpushed_on, unpushed, after_pushes}
 use Rattle.rooms.proofs.Lists.{drop-there, drop-past}
-use Rattle.sync_msgs.specs.declared.client_message.ClientMessage.{ClientMessage}
-use Rattle.sync_msgs.specs.declared.client_message.ClientMessage.TheVariants.{Push}
+use Rattle.first_msgs.specs.declared.client_message.ClientMessage.{ClientMessage}
+use Rattle.first_msgs.specs.declared.client_message.ClientMessage.TheVariants.{Push}
 
 pub closed : (c : Connection) (h : Held) → is_open c ≡ false → unpushed_on c h ≡ []
 closed Off h shut = refl

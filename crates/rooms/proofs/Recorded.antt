@@ -1,13 +1,12 @@
 -- What was read of a source, beside the recording that it held, and what each status says.
-use Rattle.std.proofs.Common.{◌≡◌, ℕ, ◌<◌, ◌≤◌, List, [], ◌++◌, Bool, true, false, Option, None, Some, Result, Ok, Err, IfOk, take, drop, length, nat_lt, refl, sym, ap, subst, ◌∙◌, append-nil, length-append, take_all, arith}
+use Rattle.std.proofs.Common.{◌≡◌, ℕ, ◌<◌, ◌≤◌, List, [], ◌++◌, Bool, true, false, Option, None, Some, Result, Ok, Err, take, length, nat_lt, refl, sym, ap, subst, ◌∙◌, append-nil, length-append, take_all, arith}
 use Rattle.std.proofs.lemmas.Bool.Decides.{nat_tests}
-use Rattle.std.proofs.lemmas.List.{take-append-le, drop_all}
-use lib.Seq.{drop-append-le}
+use Rattle.std.proofs.lemmas.List.{take-append-le}
 use Rattle.std.specs.Io.KnownBytes.{Consumes, IsAtEnd}
 use Rattle.room_link.proofs.HeldLemmas.{Extends-nil}
 use Rattle.rooms.specs.Lines.{lines_of}
 use Rattle.rooms.specs.Replay.{Written, written, unended_fault, replay}
-use Rattle.rooms.specs.Runs.{Finishes, IsRead, Leaves}
+use Rattle.rooms.specs.Runs.{Finishes, Leaves}
 use Rattle.rooms.specs.declared.play.End.{End}
 use Rattle.rooms.specs.declared.play.Stop.{Stop}
 
@@ -40,24 +39,6 @@ leaves_read (Some recording) (Some rest) most bytes result old new is read withi
     let shown : replay recording ≡ Shown (nat_lt (length bytes) most) bytes =
     ap (λ m. Shown (nat_lt (length recording) m) (take m recording)) (sym is) ∙ (λ i. Shown (same.0 i) (same.1 i)) in
     subst (λ w. Finishes w result old new) (sym shown) finishes
-
-left_after : (most : ℕ) (recording bytes rest : List ℕ) → recording ≡ bytes ++ rest → length bytes ≤ most → (length bytes < most → rest ≡ []) → rest ≡ drop most recording
-left_after most recording bytes rest is within at_end = elim (nat_lt (length bytes) most) as (λ b. nat_lt (length bytes) most ≡ b → rest ≡ drop most recording) [
-  | true ↦ λ t.
-      let none = at_end (grind (arith, nat_tests, t)) in
-      none ∙ sym (ap (drop most) (is ∙ ap (λ r. bytes ++ r) none ∙ append-nil bytes) ∙ drop_all most bytes within)
-  | false ↦ λ t.
-      let full : most ≤ length bytes = grind (arith, nat_tests, t) in
-      sym (ap (drop most) is ∙ drop-append-le most bytes rest full ∙ ap (λ r. r ++ rest) (drop_all most bytes within))
-] refl
-
--- what is left of the source where the replay comes to an end
-pub reads_front : (left rest : Option (List ℕ)) (most : ℕ) (bytes : List ℕ) (result : Result End Stop) → most ≡ 1073741824 → Consumes left rest bytes → length bytes ≤ most → (length bytes < most → IsAtEnd rest)
-    → IfOk result (λ _. IsRead left rest)
-reads_front left rest most bytes (Err e) is read within at_end = tt
-reads_front None rest most bytes (Ok end) is read within at_end = tt
-reads_front (Some recording) None most bytes (Ok end) is read within at_end = absurd read
-reads_front (Some recording) (Some rest) most bytes (Ok end) is read within at_end = ap Some (left_after most recording bytes rest read within at_end ∙ ap (λ n. drop n recording) is)
 
 -- nothing was written where the source failed
 pub leaves_nothing : (left : Option (List ℕ)) (e : Stop) (held : Option (List ℕ)) → Leaves left (Err e) held held

@@ -1,8 +1,8 @@
 -- Replies of the code's world, beside what an event makes of the worlds that it stands for.
 use Rattle.std.proofs.Common.{◌≡◌, ℕ, ◌==◌, true, false, cond, [], Option, Some, None, Vec, Global, refl, sym, subst, arith}
 use Rattle.std.proofs.lemmas.Bool.Decides.{nat_tests}
-use Rattle.room_model.specs.Rooms.{Room}
-use Rattle.room_model.specs.Worlds as model
+use Rattle.first_model.specs.Rooms.{Room}
+use Rattle.first_model.specs.Worlds as model
 use Rattle.rooms.specs.Clients.{Holding}
 use Rattle.rooms.specs.Replay.{moved}
 use Rattle.rooms.specs.Replies.{Answers}

@@ -3,7 +3,7 @@ use Rattle.std.proofs.Common.{◌≡◌, [], Some, None, Result, Ok, Err, sym, a
 use Rattle.std.specs.Result.{result_ok}
 use Rattle.rooms_val.specs.Data.{Pairs}
 use Rattle.field_ops.specs.RecordOps.{RecordOps}
-use Rattle.room_model.specs.Documents.{step}
+use Rattle.doc_model.specs.Documents.{step}
 use Rattle.schema_core.specs.Admits as schema
 use Rattle.schema_core.specs.Tree.{Types, SchemaTree}
 use Rattle.side_effects.specs.Completed.{completed}

@@ -1,21 +1,21 @@
 -- What a room gives its session, beside what the definition of the world makes of it.
 use Rattle.std.proofs.Common.{◌≡◌, ℕ, ◌<◌, nat_lt, Bool, true, false, List, [], ◌∷◌, ◌++◌, length, drop, Option, Some, None, refl, sym, ap, subst, ◌∙◌, arith, take_all}
 use Rattle.std.proofs.lemmas.Bool.Decides.{nat_tests}
-use Rattle.room_model.specs.Histories.{History, document_of}
-use Rattle.room_model.specs.Messages.{answer, news, events_after, puts_of}
-use Rattle.room_model.specs.Rooms.{Room, Notice, answer_at, news_between, next_message, after_drain}
-use Rattle.room_model.specs.Worlds as model
-use Rattle.room_model.specs.Worlds.{Client, Link, sending}
-use Rattle.room_model.specs.declared.phase.Phase.{Phase}
-use Rattle.room_model.specs.declared.phase.Phase.TheVariants.{New, Asked, Live}
-use Rattle.room_model.specs.declared.phase.Connection.{Connection}
-use Rattle.room_model.specs.declared.phase.Connection.TheVariants.{Off, Asking, Open}
+use Rattle.first_model.specs.Histories.{History, document_of}
+use Rattle.first_model.specs.Messages.{answer, news, events_after, puts_of}
+use Rattle.first_model.specs.Rooms.{Room, Notice, answer_at, news_between, next_message, after_drain}
+use Rattle.first_model.specs.Worlds as model
+use Rattle.first_model.specs.Worlds.{Client, Link, sending}
+use Rattle.first_model.specs.declared.phase.Phase.{Phase}
+use Rattle.first_model.specs.declared.phase.Phase.TheVariants.{New, Asked, Live}
+use Rattle.first_model.specs.declared.phase.Connection.{Connection}
+use Rattle.first_model.specs.declared.phase.Connection.TheVariants.{Off, Asking, Open}
 use Rattle.rooms.specs.Clients.{Holding}
 use Rattle.rooms.specs.Standing.{AllActed, Holds, Flows, Meets, MeetsLive, Tells, AllTell, together, StandsFor}
 use Rattle.rooms.specs.declared.world.Link as code
 use Rattle.rooms.proofs.Edits.{Becomes}
 use Rattle.rooms.proofs.Following.{all_tell_last, leads_on}
-use Rattle.sync_msgs.specs.declared.server_message.ServerMessage.{ServerMessage}
+use Rattle.first_msgs.specs.declared.server_message.ServerMessage.{ServerMessage}
 
 -- a link with a further notice
 abbrev pub link_down : Link → Notice → Link

@@ -1,11 +1,8 @@
 -- Records that are set one after another, in the order of their ids.
 use Rattle.std.proofs.Common.{◌≡◌, ℕ, true, false, cond, List, [], ◌∷◌, ◌++◌, map, Some, refl, sym, ap, subst, ◌∙◌, append_assoc, append-nil}
 use Rattle.rooms_val.specs.Data.{Data, Pairs}
-use Rattle.rooms_val.specs.Maps.{get}
-use Rattle.rooms.specs.Stored.{set_if}
-use Rattle.field_ops.specs.Entries.{AreRising, with_key}
-use Rattle.field_ops.proofs.ForRoomsVal.{ties, at-with_key, order_itself}
-use Rattle.room_model.proofs.Rising.{put_last, rising_on}
+use Rattle.rooms_val.specs.Maps.{added, value_at, AreRising, with_key, ties}
+use Rattle.rooms_val.proofs.MapsLemmas.{at-with_key, order_itself, put_last, rising_on}
 
 -- the records that were set so far, and those that are left
 pub record Loads (all done left : Pairs) : Type 0 where
@@ -28,17 +25,17 @@ pub copies_first : (all : Pairs) (ids : List (List ℕ)) (done : Pairs) → AreR
 copies_first all ids done rising is none = (all, record { whole = ap (λ d. d ++ all) none; rising = subst (λ d. AreRising (d ++ all)) (sym none) rising }, is)
 
 -- what is found in a front is found in the whole
-get_front : (xs ys : Pairs) (k : List ℕ) (d : Data) → get xs k ≡ Some d → get (xs ++ ys) k ≡ Some d
+get_front : (xs ys : Pairs) (k : List ℕ) (d : Data) → value_at xs k ≡ Some d → value_at (xs ++ ys) k ≡ Some d
 get_front [] ys k d is = absurd (cc)
-get_front (x ∷ xs) ys k d is = elim (ties k x.0) as (λ b. cond b (Some x.1) (get xs k) ≡ Some d → cond b (Some x.1) (get (xs ++ ys) k) ≡ Some d) [ true ↦ λ e. e | false ↦ λ e. get_front xs ys k d e ] is
+get_front (x ∷ xs) ys k d is = elim (ties k x.0) as (λ b. cond b (Some x.1) (value_at xs k) ≡ Some d → cond b (Some x.1) (value_at (xs ++ ys) k) ≡ Some d) [ true ↦ λ e. e | false ↦ λ e. get_front xs ys k d e ] is
 
 -- what stands under a key in the middle of rising pairs
-find_middle : (done : Pairs) (k : List ℕ) (d : Data) (left : Pairs) → AreRising (done ++ (k, d) ∷ left) → get (done ++ (k, d) ∷ left) k ≡ Some d
+find_middle : (done : Pairs) (k : List ℕ) (d : Data) (left : Pairs) → AreRising (done ++ (k, d) ∷ left) → value_at (done ++ (k, d) ∷ left) k ≡ Some d
 find_middle done k d left rising =
-    ap (λ ps. get ps k) (sym (append_assoc done ((k, d) ∷ []) left))
-    ∙ get_front (done ++ (k, d) ∷ []) left k d (ap (λ ps. get ps k) (sym (put_last done k d left rising)) ∙ at-with_key done k k d ∙ rw (order_itself k) refl)
+    ap (λ ps. value_at ps k) (sym (append_assoc done ((k, d) ∷ []) left))
+    ∙ get_front (done ++ (k, d) ∷ []) left k d (ap (λ ps. value_at ps k) (sym (put_last done k d left rising)) ∙ at-with_key done k k d ∙ rw (order_itself k) refl)
 
-pub copies_next : (all done more : Pairs) (id : List ℕ) (ids : List (List ℕ)) → Copies all done (id ∷ ids) → more ≡ set_if (get all id) done id → Copies all more ids
+pub copies_next : (all done more : Pairs) (id : List ℕ) (ids : List (List ℕ)) → Copies all done (id ∷ ids) → more ≡ added done id (value_at all id) → Copies all more ids
 copies_next all done more id ids copies set = by_left copies.0 copies.1 copies.2
   where
     by_left : (left : Pairs) → Loads all done left → id ∷ ids ≡ map (λ p. p.0) left → Copies all more ids
@@ -46,8 +43,8 @@ copies_next all done more id ids copies set = by_left copies.0 copies.1 copies.2
     by_left (p ∷ left) loads is =
         let same : id ≡ p.0 = cc in
         let others : ids ≡ map (λ p. p.0) left = cc in
-        let found : get all id ≡ Some p.1 = (λ i. get (sym loads.whole i) (same i)) ∙ find_middle done p.0 p.1 left loads.rising in
-        (left, loads_next all done more p.0 p.1 left loads (set ∙ (λ i. set_if (found i) done (same i))), others)
+        let found : value_at all id ≡ Some p.1 = (λ i. value_at (sym loads.whole i) (same i)) ∙ find_middle done p.0 p.1 left loads.rising in
+        (left, loads_next all done more p.0 p.1 left loads (set ∙ (λ i. added done (same i) (found i))), others)
 
 pub copied_all : (all done : Pairs) → Copies all done [] → done ≡ all
 copied_all all done copies = by_left copies.0 copies.1 copies.2

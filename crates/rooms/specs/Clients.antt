@@ -6,19 +6,19 @@ use Rattle.rooms_val.specs.Code.{coded_pairs}
 use Rattle.rooms_val.specs.Data.{Pairs}
 use Rattle.field_ops.specs.RecordOps.{RecordOps}
 use Rattle.field_ops.specs.WireRecordOps.{coded_changes}
-use Rattle.room_model.specs.Codes.{coded_connection}
-use Rattle.room_model.specs.Documents as documents
-use Rattle.room_model.specs.Worlds.{pushes_of}
-use Rattle.room_model.specs.declared.phase.Connection.{Connection}
-use Rattle.room_model.specs.declared.phase.Connection.TheVariants.{Off, Asking, Open}
+use Rattle.first_model.specs.Codes.{coded_connection}
+use Rattle.doc_model.specs.Documents as documents
+use Rattle.first_model.specs.Worlds.{pushes_of}
+use Rattle.first_model.specs.declared.phase.Connection.{Connection}
+use Rattle.first_model.specs.declared.phase.Connection.TheVariants.{Off, Asking, Open}
 pub use Rattle.rooms.specs.Rules.{is_admitted, is_document, completes}
-use Rattle.sync_msgs.specs.declared.client_message.ClientMessage.{ClientMessage}
-use Rattle.sync_msgs.specs.declared.data_event.Action.{Action}
-use Rattle.sync_msgs.specs.declared.data_event.Action.TheVariants.{Commit, Discard, Rebase}
-use Rattle.sync_msgs.specs.declared.data_event.DataEvent.{DataEvent}
-use Rattle.sync_msgs.specs.declared.data_event.DataEvent.TheVariants.{Patch, PushResult}
-use Rattle.sync_msgs.specs.declared.server_message.ServerMessage.{ServerMessage}
-use Rattle.sync_msgs.specs.declared.server_message.ServerMessage.TheVariants as message
+use Rattle.first_msgs.specs.declared.client_message.ClientMessage.{ClientMessage}
+use Rattle.first_msgs.specs.declared.data_event.Action.{Action}
+use Rattle.first_msgs.specs.declared.data_event.Action.TheVariants.{Commit, Discard, Rebase}
+use Rattle.first_msgs.specs.declared.data_event.DataEvent.{DataEvent}
+use Rattle.first_msgs.specs.declared.data_event.DataEvent.TheVariants.{Patch, PushResult}
+use Rattle.first_msgs.specs.declared.server_message.ServerMessage.{ServerMessage}
+use Rattle.first_msgs.specs.declared.server_message.ServerMessage.TheVariants as message
 
 -- what a client has of its room's document: the base and its clock, its unanswered edits, the oldest first, and how many of these were
 -- pushed on this connection
@@ -54,7 +54,7 @@ fresh = record { connection = Off; held = nothing; pushes = 0 }
 
 -- what it shows: the base with its unanswered edits replayed
 abbrev pub shown : Held → Pairs
-shown h = documents.replayed is_admitted h.base h.owed
+shown h = documents.replay is_admitted h.base h.owed
 
 -- with a further edit
 abbrev pub owing : Held → RecordOps → Held

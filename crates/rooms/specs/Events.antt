@@ -3,8 +3,9 @@ use Rattle.std.specs.Prelude.{ℕ, List, length, Bool, false, ◌&&◌, ◌==◌
 use Rattle.std.specs.Option.{option_map_or}
 use Rattle.std.specs.Str.{bytes_eq}
 use Rattle.rooms_val.specs.Data.{Data, Pairs}
-use Rattle.rooms.specs.Forms.{pairs_in, text_at, number_at, pairs_at, is_false}
-use Rattle.room_model.specs.Readings.{changes_of}
+use Rattle.rooms_val.specs.Kinds.{as_map, text_at}
+use Rattle.rooms.specs.Forms.{number_at, pairs_at, is_false}
+use Rattle.field_ops.specs.Readings.{diff_of_pairs as changes_of}
 use Rattle.rooms.specs.declared.recording.Event.{Event}
 use Rattle.rooms.specs.declared.recording.Event.TheVariants.{Client, Connect, Edit, Handle, Send, Deliver, Show, End}
 
@@ -17,7 +18,7 @@ abbrev pub is_header_map : Pairs → Bool
 is_header_map ps = (length ps == 2) && has_number ps (codes "recording") 1 && has_number ps (codes "version") 3
 
 abbrev pub is_header : Data → Bool
-is_header d = option_map_or is_header_map (pairs_in d) false
+is_header d = option_map_or is_header_map (as_map d) false
 
 -- Each event has its `do`, and the fields of its form and no more.
 
@@ -61,4 +62,4 @@ event_in ps = option_and_then (event_named ps) (text_at ps (codes "do"))
 
 -- the event that a value stands for
 abbrev pub event_of : Data → Option Event
-event_of d = option_and_then event_in (pairs_in d)
+event_of d = option_and_then event_in (as_map d)

@@ -1,9 +1,9 @@
 -- What the room's replies say.
 use Rattle.std.specs.Prelude.{◌≡◌, ℕ, Bool, true, false, Option, Some, None, slice_get}
 use Rattle.std.specs.Option.{option_map_or}
-use Rattle.room_model.specs.Rooms.{Room}
-use Rattle.room_model.specs.declared.phase.Phase.{Phase}
-use Rattle.room_model.specs.declared.phase.Phase.TheVariants.{New, Asked, Live}
+use Rattle.first_model.specs.Rooms.{Room}
+use Rattle.first_model.specs.declared.phase.Phase.{Phase}
+use Rattle.first_model.specs.declared.phase.Phase.TheVariants.{New, Asked, Live}
 use Rattle.rooms.specs.declared.room.Handled.{Handled}
 use Rattle.rooms.specs.declared.room.Handled.TheVariants.{Taken, Refused}
 

@@ -2,7 +2,6 @@ pub mod Lines
 pub mod Forms
 pub mod Events
 pub mod Rules
-pub mod Stored
 pub mod Clients
 pub mod Handling
 pub mod Texts
@@ -11,3 +10,5 @@ pub mod Jobs
 pub mod Standing
 pub mod Replies
 pub mod Runs
+pub mod Words
+pub mod Reading

@@ -6,8 +6,8 @@ use Rattle.rooms_val.specs.Json.{value_of}
 use Rattle.rooms_val.specs.declared.fault.ValFault.{ValFault}
 use Rattle.rooms.specs.Lines.{longest_line, is_blank, is_whole, recorded_lines}
 use Rattle.rooms.specs.Events.{is_header, event_of}
-use Rattle.room_model.specs.Histories.{document_of}
-use Rattle.room_model.specs.Worlds.{World, Client, empty_world, held, after_join, after_connect, after_edit, after_handle, after_send, after_deliver}
+use Rattle.first_model.specs.Histories.{document_of}
+use Rattle.first_model.specs.Worlds.{World, Client, empty_world, held, after_join, after_connect, after_edit, after_handle, after_send, after_deliver}
 use Rattle.rooms.specs.Clients.{completes, is_document, is_admitted}
 use Rattle.rooms.specs.Texts.{fault_line, show_line, end_line}
 use Rattle.rooms.specs.declared.fault.Fault.{Fault}

@@ -6,7 +6,7 @@ use Rattle.field_ops.specs.RecordOps.{RecordOps}
 use Rattle.schema_core.specs.Admits as schema
 use Rattle.schema_core.specs.Builds.{by_name}
 use Rattle.schema_core.specs.Tree.{SchemaTree}
-use Rattle.side_effects.specs.Completed.{is_of_document, completed}
+use Rattle.side_effects.specs.Completed.{completed}
 use Rattle.tl_tables.specs.Types.{type_rows}
 
 -- the types of that version; nothing here goes by sequences of migrations
@@ -19,7 +19,7 @@ is_admitted id d = schema.is_admitted whiteboard id d
 
 -- an id is one of the document's
 unfoldable pub is_document : List ℕ → Bool
-is_document id = is_of_document (schema.scope_of whiteboard id)
+is_document id = schema.is_document whiteboard id
 
 -- the diff to which an edit of a document is completed, if it isn't refused
 unfoldable pub completes : Pairs → RecordOps → Option RecordOps

@@ -1,7 +1,6 @@
 -- How a run ends, and what it leaves in its sink.
-use Rattle.std.specs.Prelude.{◌≡◌, ℕ, List, ◌++◌, drop, true, false, ⊤, Option, Some, None, Result, Ok, Err, if◌then◌else◌}
+use Rattle.std.specs.Prelude.{◌≡◌, ℕ, ◌⊎◌, List, ◌++◌, true, false, ⊤, Option, Some, None, Result, Ok, Err, if◌then◌else◌}
 use Rattle.room_link.specs.Held.{Extends}
-use Rattle.rooms.specs.Lines.{most_bytes}
 use Rattle.rooms.specs.Replay.{Written, replay}
 use Rattle.rooms.specs.declared.play.End.{End}
 use Rattle.rooms.specs.declared.play.End.TheVariants.{Done, Refused}
@@ -37,10 +36,9 @@ abbrev pub Leaves : Option (List ℕ) → Result End Stop → Option (List ℕ) 
 Leaves None result old new = ⊤
 Leaves (Some recording) result old new = Finishes (replay recording) result old new
 
--- where the source tells the recording that it held, what follows the bytes that are looked at is left in it
-abbrev pub IsRead : Option (List ℕ) → Option (List ℕ) → Type 0
-IsRead None left = ⊤
-IsRead (Some recording) left = left ≡ Some (drop most_bytes recording)
+-- the statuses with which the program ends
+abbrev pub IsStatus : ℕ → Type 0
+IsStatus status = (status ≡ 2) ⊎ (status ≡ 0) ⊎ (status ≡ 3) ⊎ (status ≡ 4) ⊎ (status ≡ 5) ⊎ (status ≡ 6)
 
 -- the status of a recording that is read whole: 0 where it is read to its end, 3 where it is refused
 abbrev pub status_of : List ℕ → ℕ

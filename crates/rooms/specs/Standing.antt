@@ -4,28 +4,29 @@ use Rattle.std.specs.Prelude.{◌≡◌, ℕ, ◌≤◌, ◌<◌, pos, negsuc, L
 use Rattle.std.specs.List.{list_all}
 use Rattle.rooms_val.specs.Data.{Pairs}
 use Rattle.field_ops.specs.RecordOps.{RecordOps}
-use Rattle.room_model.specs.Accepting.{are_fit}
-use Rattle.room_model.specs.Documents.{step}
-use Rattle.room_model.specs.Histories.{History, document_of, up_to, folded}
-use Rattle.room_model.specs.Messages.{puts_of, events_after}
-use Rattle.room_model.specs.Rooms.{Room, empty_room, Notice, answer_at, news_between}
-use Rattle.room_model.specs.Worlds as model
-use Rattle.room_model.specs.Worlds.{Client, Link, most_pushes, pushes_of}
-use Rattle.room_model.specs.declared.history.Author.{Author}
-use Rattle.room_model.specs.declared.history.Entry.{Entry}
-use Rattle.room_model.specs.declared.phase.Phase.{Phase}
-use Rattle.room_model.specs.declared.phase.Phase.TheVariants.{New, Asked, Live}
-use Rattle.room_model.specs.declared.phase.Connection.{Connection}
-use Rattle.room_model.specs.declared.phase.Connection.TheVariants.{Off, Asking, Open}
+use Rattle.first_model.specs.Accepting.{are_fit}
+use Rattle.doc_model.specs.Documents.{step}
+use Rattle.first_model.specs.Histories.{History, document_of, up_to}
+use Rattle.doc_model.specs.Documents.{fold_raw as folded}
+use Rattle.first_model.specs.Messages.{puts_of, events_after}
+use Rattle.first_model.specs.Rooms.{Room, empty_room, Notice, answer_at, news_between}
+use Rattle.first_model.specs.Worlds as model
+use Rattle.first_model.specs.Worlds.{Client, Link, most_pushes, pushes_of}
+use Rattle.first_model.specs.declared.history.Author.{Author}
+use Rattle.first_model.specs.declared.history.Entry.{Entry}
+use Rattle.first_model.specs.declared.phase.Phase.{Phase}
+use Rattle.first_model.specs.declared.phase.Phase.TheVariants.{New, Asked, Live}
+use Rattle.first_model.specs.declared.phase.Connection.{Connection}
+use Rattle.first_model.specs.declared.phase.Connection.TheVariants.{Off, Asking, Open}
 use Rattle.rooms.specs.Clients.{is_document, is_admitted, Holding, unpushed, after_pushes}
 use Rattle.rooms.specs.declared.world.World.{World}
 use Rattle.rooms.specs.declared.world.Link as code
-use Rattle.sync_msgs.specs.declared.client_message.ClientMessage.{ClientMessage}
-use Rattle.sync_msgs.specs.declared.client_message.ClientMessage.TheVariants.{Connect, Push}
-use Rattle.sync_msgs.specs.declared.data_event.Action.{Action}
-use Rattle.sync_msgs.specs.declared.data_event.Action.TheVariants.{Commit, Discard, Rebase}
-use Rattle.sync_msgs.specs.declared.server_message.ServerMessage.{ServerMessage}
-use Rattle.sync_msgs.specs.declared.server_message.ServerMessage.TheVariants as message
+use Rattle.first_msgs.specs.declared.client_message.ClientMessage.{ClientMessage}
+use Rattle.first_msgs.specs.declared.client_message.ClientMessage.TheVariants.{Connect, Push}
+use Rattle.first_msgs.specs.declared.data_event.Action.{Action}
+use Rattle.first_msgs.specs.declared.data_event.Action.TheVariants.{Commit, Discard, Rebase}
+use Rattle.first_msgs.specs.declared.server_message.ServerMessage.{ServerMessage}
+use Rattle.first_msgs.specs.declared.server_message.ServerMessage.TheVariants as message
 
 -- a step does with the diff of each entry what folding it does
 abbrev pub AllActed : Pairs → History → Type 0

@@ -1,6 +1,6 @@
 //! A client: it edits a document by itself, and keeps in step with a room where it is connected to one.
 ghost use Rattle.std.specs.Prelude.{◌≡◌, ◌∷◌, [], ◌++◌, ◌<◌, ◌^◌, decimal, length, IfOk, OnOk, None, Some};
-ghost use Rattle.room_model.specs.Worlds.{session_of};
+ghost use Rattle.first_model.specs.Worlds.{session_of};
 ghost use Rattle.rooms.specs.Clients.{completes, fresh, shown, owing, opened, after_message, GivesPush, is_open};
 
 use crate::held::Held;
@@ -8,13 +8,13 @@ use crate::rules::Rules;
 use crate::stored;
 use doc_store::MapDoc;
 use field_ops::Diff;
+use first_model::Connection;
+use first_msgs::{ClientMessage, ServerMessage};
 use itoa::Buffer;
-use room_model::Connection;
 use rooms_val::{Fields, Mem, Steps, Text};
 use std::alloc::Global;
 use std::marker::Model;
 use std::sync::ledger::Ledger;
-use sync_msgs::{ClientMessage, ServerMessage};
 
 /// The greatest number that a push can have.
 const MOST_PUSHES: u64 = (1 << 53) - 1;

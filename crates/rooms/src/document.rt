@@ -1,10 +1,10 @@
 //! What diffs make of a document that is kept as a map.
 ghost use Rattle.std.specs.Prelude.{◌≡◌, IfOk, OnOk, false, if◌then◌else◌};
-ghost use Rattle.field_ops.specs.Entries.{with_key};
+ghost use Rattle.rooms_val.specs.Maps.{with_key};
 ghost use Rattle.std.specs.Option.{option_map_or};
 ghost use Rattle.field_ops.specs.ViewRecordOps.{change_of};
-ghost use Rattle.room_model.specs.Accepting.{accepted, are_fit, is_fit};
-ghost use Rattle.room_model.specs.Documents.{acts, stepped, step};
+ghost use Rattle.first_model.specs.Accepting.{accepted, are_fit, is_fit};
+ghost use Rattle.doc_model.specs.Documents.{acts, step_at as stepped, step};
 ghost use Rattle.rooms_val.specs.View.{data_of};
 ghost use Rattle.rooms.specs.Clients.{is_document, is_admitted};
 

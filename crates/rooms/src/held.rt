@@ -6,12 +6,12 @@ use crate::rules::Rules;
 use crate::{document, stored};
 use doc_store::MapDoc;
 use field_ops::Diff;
+use first_msgs::{Action, DataEvent, Events};
 use rooms_val::{Fields, Mem, Steps};
 use std::alloc::Global;
 use std::collections::VecDeque;
 use std::marker::Model;
 use std::sync::ledger::Ledger;
-use sync_msgs::{Action, DataEvent, Events};
 
 /// A base of the room's document and its clock, with the unanswered edits, oldest first, and how many of them were pushed on
 /// this connection.

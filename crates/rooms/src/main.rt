@@ -23,36 +23,28 @@ mod stored;
 #[cfg(test)]
 mod tests;
 mod texts;
+mod words;
 mod world;
 mod writing;
 
-ghost use Rattle.std.specs.Prelude.{◌≡◌, ◌<◌};
+ghost use Rattle.std.specs.Prelude.{◌≡◌, ◌<◌, ◌↔◌, ◌⊎◌, string_bytes, map, IfOk, OnOk, IfSome, MatchOption, None};
+ghost use Rattle.std.specs.Io.KnownBytes.{Appends};
+ghost use Rattle.rooms.specs.Jobs.{job_named};
+ghost use Rattle.rooms.specs.Runs.{IsStatus};
+ghost use Rattle.rooms.specs.Words.{text_asked};
 
+use crate::words::{HELP, VERSION, asked, tell_usage, words_of};
 use room_link::standard::{StandardInput, StandardOutput};
 use rooms_val::Steps;
+use std::io;
+use std::io::Write;
 use std::marker::Brand;
 use std::process::ExitCode;
 use std::sync::ledger::{Blank, Ledger};
-use std::{env, io};
-
-/// The rows of words that the program takes.
-const USAGE: &str = "usage: rooms replay";
-
-/// What each word means.
-const HELP: &str = "\
-usage: rooms replay
-
-  replay     replays the recording on standard input: prints what its clients show, and what the room holds at its end
-  --help     prints this
-  --version  prints the program's name and version
-";
-
-/// The program's name and version.
-const VERSION: &str = "rooms 0.1.0";
 
 fn main(rt: HostRuntime) -> io::Result<ExitCode> {
     let status = match words_of(&rt) {
-        Ok(words) => answered(&rt, words.as_slice())?,
+        Ok(words) => answered(&rt, words.as_slice(), &mut io::writer(&rt))?,
         // A word that isn't UTF-8 is in no row.
         Err(error) => if error.kind() == io::ErrorKind::InvalidData {
             run::USAGE
@@ -60,32 +52,25 @@ fn main(rt: HostRuntime) -> io::Result<ExitCode> {
             return Err(error);
         },
     };
-    if status == run::USAGE {
-        eprintln!(rt; "{USAGE}")?;
-    }
+    tell_usage(status, &mut rt.stderr())?;
     Ok(ExitCode::from(status))
 }
 
-/// The words of the command line, without the program's name.
-fn words_of(rt: &HostRuntime) -> io::Result<Vec<String>> {
-    let mut words = Vec::new(rt.alloc());
-    for word in env::args(rt)?.skip(1) {
-        words.push(word)?;
-    }
-    Ok(words)
-}
+/// Does what the words ask for, and answers the status. The help and the version go to `output`.
+fn answered<W: Write>(rt: &HostRuntime, words: &[String], output: &mut W) -> io::Result<u8>
+    // Where the one word asks for the help or the version, that is written; of other words nothing is written here.
+    ensures written { OnOk result (IfSome (text_asked HELP.now VERSION.now (map string_bytes words.now))
+        (Appends (W.contents output.old) (W.contents output.new))) }
+    ensures silent { text_asked HELP.now VERSION.now (map string_bytes words.now) ≡ None → output.new ≡ output.old }
 
-/// Does what the words ask for, and answers the status.
-fn answered(rt: &HostRuntime, words: &[String]) -> io::Result<u8> {
-    if let [word] = words {
-        if word.as_str() == "--help" {
-            print!(rt; "{HELP}")?;
-            return Ok(0);
-        }
-        if word.as_str() == "--version" {
-            println!(rt; "{VERSION}")?;
-            return Ok(0);
-        }
+    // The status is 0 there, and else 2 exactly where the words ask for no job.
+    ensures usage { IfOk result (λ status. MatchOption (text_asked HELP.now VERSION.now (map string_bytes words.now))
+        ((status ≡ 2) ↔ (job_named (map string_bytes words.now) ≡ None)) (λ _. status ≡ 0)) }
+    ensures known { IfOk result IsStatus }
+{
+    if let Some(text) = asked(words) {
+        output.write_all(text.as_bytes())?;
+        return Ok(0);
     }
     Ok(started::<Brand>(rt, words, Blank::new(1)))
 }
@@ -95,6 +80,8 @@ fn started<L: Ledger>(rt: &HostRuntime, words: &[String], blank: Blank) -> u8
     requires name { blank.name ≡ L.name }
     requires parts { blank.parts ≡ L.parts }
     requires some { 0 < blank.parts }
+    ensures usage { (result ≡ 2) ↔ (job_named (map string_bytes words.now) ≡ None) }
+    ensures known { IsStatus result }
 {
     let mut source = StandardInput::new(rt.reader());
     let mut sink = StandardOutput::new(io::writer(rt));

@@ -1,9 +1,10 @@
 //! A recording, replayed from its source to its sink.
 ghost use Rattle.std.specs.Prelude.{◌≡◌, ◌<◌, ◌≤◌, ◌^◌, length, IfOk, IsErrOf, Option, None};
 ghost use Rattle.rooms.specs.Replay.{Taken, Progress, Written, written, followed, unended_fault};
-ghost use Rattle.rooms.specs.Lines.{lines_of};
+ghost use Rattle.rooms.specs.Lines.{lines_of, most_bytes};
 ghost use Rattle.rooms.specs.Replies.{Answers, Begins};
-ghost use Rattle.rooms.specs.Runs.{Finishes, IsRead, Leaves, status_code};
+ghost use Rattle.rooms.specs.Reading.{TakesFront};
+ghost use Rattle.rooms.specs.Runs.{Finishes, Leaves, status_code};
 ghost use Rattle.rooms.specs.declared.world.World.{World};
 ghost use Rattle.rooms.specs.declared.play.Stop.TheVariants as stop;
 
@@ -95,7 +96,7 @@ pub fn replay_job<S: Source, K: Sink, L: Ledger>(
     steps: &mut Steps<L>,
 ) -> Result<End, Stop>
     ensures leaves { Leaves (S.left source.old) result (K.held sink.old) (K.held sink.new) }
-    ensures reads { IfOk result (λ _. IsRead (S.left source.old) (S.left source.new)) }
+    ensures reads { TakesFront most_bytes (S.left source.old) (S.left source.new) }
     ensures source_failed { IsErrOf result stop.SourceFailed → S.faults source.old < S.faults source.new }
     ensures sink_failed { IsErrOf result stop.SinkFailed → K.faults sink.old < K.faults sink.new }
 {

@@ -1,6 +1,7 @@
 //! Reading a source to its end.
 ghost use Rattle.std.specs.Prelude.{◌≡◌, ℕ, ◌<◌, ◌≤◌, vec_len, IfOk, IsErrOf};
 ghost use Rattle.std.specs.Io.KnownBytes.{Consumes, IsAtEnd};
+ghost use Rattle.rooms.specs.Reading.{TakesFront};
 ghost use Rattle.rooms.specs.declared.reading.ReadFault.TheVariants.{Failed, OutOfMemory};
 
 use room_link::source::Source;
@@ -52,6 +53,9 @@ pub fn read_up_to<S: Source>(
     ensures bound { IfOk result (λ bytes. vec_len bytes ≤ limit) }
     ensures bytes { IfOk result (λ bytes. Consumes (S.left source.old) (S.left source.new) bytes.items) }
     ensures end { IfOk result (λ bytes. vec_len bytes < limit → IsAtEnd (S.left source.new)) }
+
+    // On every answer, a refusal too, a front of at most so many bytes is gone from the source, and nothing else.
+    ensures taken { TakesFront limit (S.left source.old) (S.left source.new) }
 {
     let mut bytes = Vec::new(alloc);
     let mut buf = vec![in alloc; 0u8; PIECE]?;

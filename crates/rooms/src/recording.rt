@@ -1,8 +1,8 @@
 //! The header and the events of a recording, read from the values of its lines.
 ghost use Rattle.std.specs.Prelude.{◌≡◌, IfOk, option_and_then};
 ghost use Rattle.rooms_val.specs.View.{data_of};
-ghost use Rattle.room_model.specs.Readings.{changes_of};
-ghost use Rattle.rooms.specs.Forms.{pairs_in};
+ghost use Rattle.field_ops.specs.Readings.{diff_of_pairs as changes_of};
+ghost use Rattle.rooms_val.specs.Kinds.{as_map};
 ghost use Rattle.rooms.specs.Events.{is_header_map, is_header, client_event, connect_event, edit_event, only_number, end_event, event_named, event_in, event_of};
 
 use crate::fields::{fields_in, has_number, is_false, number_at, text_at};
@@ -155,15 +155,10 @@ fn end_event(fields: &Fields) -> Option<Event>
 
 /// The diff that the value stands for, or none.
 fn diff_of(alloc: Global, val: &Val) -> Mem<Option<Diff>>
-    ensures { IfOk result (λ diff. diff ≡ option_and_then changes_of (pairs_in (data_of val.now))) }
+    ensures { IfOk result (λ diff. diff ≡ option_and_then changes_of (as_map (data_of val.now))) }
 {
-    // That the keys in the value rise is told by its kind, and the same of a diff by its length.
-    let _ = val.kind();
     match read_diff(alloc, val) {
-        Ok(diff) => {
-            let _ = diff.len();
-            Ok(Some(diff))
-        }
+        Ok(diff) => Ok(Some(diff)),
         Err(OpFault::WrongKind) => Ok(None),
         Err(OpFault::OutOfMemory) => Err(OutOfMemory),
     }

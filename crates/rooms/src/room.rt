@@ -1,21 +1,21 @@
 //! The room: it accepts what clients push, and tells each what happened.
 ghost use Rattle.std.specs.Prelude.{◌≡◌, ◌<◌, ◌≤◌, ◌+◌, ◌^◌, [], pos, length, take, drop, is_some, if◌then◌else◌, IfOk, OnOk, slice_get};
 ghost use Rattle.field_ops.specs.RecordOps.{RecordOps};
-ghost use Rattle.room_model.specs.Accepting.{are_fit, action_of, pushed_diff};
-ghost use Rattle.room_model.specs.Histories.{document_of};
-ghost use Rattle.room_model.specs.Messages.{answer, news, events_after, event_by, puts_of};
-ghost use Rattle.room_model.specs.Rooms.{empty_room, after_enter, after_message, after_push, in_phase, next_message, after_drain};
+ghost use Rattle.first_model.specs.Accepting.{are_fit, action_of, pushed_diff};
+ghost use Rattle.first_model.specs.Histories.{document_of};
+ghost use Rattle.first_model.specs.Messages.{answer, news, events_after, event_by, puts_of};
+ghost use Rattle.first_model.specs.Rooms.{empty_room, after_enter, after_message, after_push, in_phase, next_message, after_drain};
 ghost use Rattle.rooms.specs.Clients.{is_document, is_admitted};
 ghost use Rattle.rooms.specs.Handling.{Handles, is_new, is_live, IsLiveAt};
 
 use crate::document;
 use crate::rules::Rules;
 use field_ops::{Diff, RecordOp};
-use room_model::{Author, Entry, Phase};
+use first_model::{Author, Entry, Phase};
+use first_msgs::{Action, ClientMessage, DataEvent, Events, ServerMessage};
 use rooms_val::{Fields, Mem, Text};
 use std::alloc::Global;
 use std::marker::Model;
-use sync_msgs::{Action, ClientMessage, DataEvent, Events, ServerMessage};
 
 /// What the room made of a message.
 #[derive(Clone, Copy, Debug, PartialEq, Eq)]
@@ -37,9 +37,9 @@ pub struct Room {
 
 impl Model for Room {
     ghost use Rattle.std.specs.Prelude.{◌≡◌};
-    ghost use Rattle.room_model.specs.Rooms as rooms;
-    ghost use Rattle.room_model.specs.Codes.{coded_room};
-    ghost use Rattle.room_model.specs.Histories.{document_of};
+    ghost use Rattle.first_model.specs.Rooms as rooms;
+    ghost use Rattle.first_model.specs.Codes.{coded_room};
+    ghost use Rattle.first_model.specs.Histories.{document_of};
 
     ghost Value = { rooms.Room };
 

@@ -1,14 +1,14 @@
 //! What the schema of recordings decides: which records are admitted, which ids are the document's, and what edits do.
 ghost use Rattle.std.specs.Prelude.{◌≡◌, ◌↔◌, [], IfOk, IsTrue, OnOk};
 ghost use Rattle.rooms_val.specs.View.{data_of};
-ghost use Rattle.room_model.specs.Documents.{step};
+ghost use Rattle.doc_model.specs.Documents.{step};
 ghost use Rattle.schema_core.specs.SchemaOf.{schema_tree};
 ghost use Rattle.rooms.specs.Rules.{HasTypes, is_admitted, is_document, completes};
 
 use doc_store::{MapDoc, TxnFault, apply};
 use field_ops::Diff;
 use rooms_val::{Mem, OutOfMemory, Steps, Val};
-use schema_core::{Schema, Scope};
+use schema_core::Schema;
 use side_effects::{EditFault, complete};
 use std::alloc::Global;
 use std::marker::Model;
@@ -60,14 +60,7 @@ impl Rules {
     pub(crate) fn is_document(&self, id: &str) -> bool
         ensures { result ≡ is_document id.now }
     {
-        match self.schema.scope_of(id) {
-            Some(scope) => match scope {
-                Scope::Document => true,
-                Scope::Session => false,
-                Scope::Presence => false,
-            },
-            None => false,
-        }
+        self.schema.is_document(id)
     }
 
     /// The diff to which an edit of a document is completed, or `None` where it is refused.
@@ -102,7 +95,7 @@ impl Rules {
         requires { document.old.1 ≡ [] }
         ensures { OnOk result (document.new ≡ (step is_admitted document.old.0 diff.now, [])) }
     {
-        match apply(document, alloc, &self.schema, diff, steps) {
+        match apply(alloc, document, &self.schema, diff, steps) {
             Ok(_) => Ok(()),
             Err(TxnFault::TooNested) => unreachable!(),
             Err(TxnFault::OutOfMemory) => Err(OutOfMemory),

@@ -1,7 +1,9 @@
 //! The top call.
 ghost use Rattle.std.specs.Prelude.{◌≡◌, ◌<◌, ◌↔◌, ◌⊎◌, string_bytes, map, None};
 ghost use Rattle.rooms.specs.Jobs.{job_named};
-ghost use Rattle.rooms.specs.Runs.{IsRead, Replays, ReplaysFront};
+ghost use Rattle.rooms.specs.Lines.{most_bytes};
+ghost use Rattle.rooms.specs.Reading.{TakesFront};
+ghost use Rattle.rooms.specs.Runs.{IsStatus, Replays, ReplaysFront};
 
 use crate::job::{Job, job_of};
 use crate::play::{replay_job, status};
@@ -24,7 +26,7 @@ pub fn run<S: Source, K: Sink, L: Ledger>(
     sink: &mut K,
     steps: &mut Steps<L>,
 ) -> u8
-    ensures known { (result ≡ 2) ⊎ (result ≡ 0) ⊎ (result ≡ 3) ⊎ (result ≡ 4) ⊎ (result ≡ 5) ⊎ (result ≡ 6) }
+    ensures known { IsStatus result }
 
     // 2 comes exactly where the words ask for no job, and then nothing is read or written.
     ensures usage { (result ≡ 2) ↔ (job_named (map string_bytes words.now) ≡ None) }
@@ -34,8 +36,8 @@ pub fn run<S: Source, K: Sink, L: Ledger>(
     ensures done { (result ≡ 0) ⊎ (result ≡ 3)
         → Replays (S.left source.old) result (K.held sink.old) (K.held sink.new) }
 
-    // On 0 and 3 the source is read to its end or to 2^30 bytes, and no further.
-    ensures reads { (result ≡ 0) ⊎ (result ≡ 3) → IsRead (S.left source.old) (S.left source.new) }
+    // On every status the source held a front of at most 2^30 bytes, followed by what it holds.
+    ensures reads { TakesFront most_bytes (S.left source.old) (S.left source.new) }
 
     // On 4, 5 and 6 a front of it is written.
     ensures stopped { (result ≡ 4) ⊎ (result ≡ 5) ⊎ (result ≡ 6)

@@ -1,9 +1,8 @@
 //! Documents that are kept as stores of records.
 ghost use Rattle.std.specs.Prelude.{◌≡◌, [], IfOk, OnOk};
-ghost use Rattle.rooms_val.specs.Maps.{get, put};
-ghost use Rattle.rooms.specs.Stored.{set_if};
+ghost use Rattle.rooms_val.specs.Maps.{added, value_at, with_key};
 ghost use Rattle.rooms_val.specs.View.{data_of};
-ghost use Rattle.room_model.specs.Documents.{replayed};
+ghost use Rattle.doc_model.specs.Documents.{replay as replayed};
 ghost use Rattle.rooms.specs.Clients.{is_admitted};
 
 use crate::rules::Rules;
@@ -36,7 +35,7 @@ fn set<L: Ledger>(
     record_: Val,
     steps: &mut Steps<L>,
 ) -> Mem<()>
-    ensures { OnOk result (document.new ≡ (put document.old.0 id.now (data_of record_), document.old.1)) }
+    ensures { OnOk result (document.new ≡ (with_key document.old.0 id.now (data_of record_), document.old.1)) }
 {
     drop(document.write(alloc, id.as_str(), Some(record_), steps)?);
     Ok(())
@@ -76,7 +75,7 @@ pub(crate) fn records_of(alloc: Global, document: &MapDoc) -> Mem<Fields>
 
 /// Adds a copy of the record of an id, where there is one.
 fn copy_record(alloc: Global, document: &MapDoc, id: &Text, records: &mut Fields) -> Mem<()>
-    ensures { OnOk result (records.new ≡ set_if (get document.now.0 id.now) records.old id.now) }
+    ensures { OnOk result (records.new ≡ added records.old id.now (value_at document.now.0 id.now)) }
 {
     if let Some(record_) = document.get(id.as_str()) {
         drop(records.put(id.copy(alloc)?, record_.copy(alloc)?)?);

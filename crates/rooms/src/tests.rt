@@ -1,13 +1,17 @@
 //! What recordings write, and how runs end, over sources and sinks in memory.
 ghost use Rattle.std.specs.Prelude.{◌≡◌, ◌<◌};
 
+use crate::room::{Handled, Room};
+use crate::rules::Rules;
 use crate::run::run;
+use field_ops::{diff_val, read_diff};
+use first_msgs::{ClientMessage, ServerMessage};
 use room_link::memory_sink::{MemorySink, SteadySink};
 use room_link::memory_source::{MemorySource, SteadySource};
 use room_link::script::Script;
 use room_link::sink::Sink;
 use room_link::source::Source;
-use rooms_val::{OutOfMemory, Steps};
+use rooms_val::{OutOfMemory, Steps, Text, Val};
 use std::alloc::Global;
 use std::marker::Brand;
 use std::process::Abort;
@@ -400,19 +404,25 @@ fn refuses_a_line_that_is_too_long(rt: HostRuntime) -> Result<(), Fail> {
     Ok(())
 }
 
-/// An edit that puts pages of these numbers.
-fn puts(alloc: Global, from: u32, to: u32) -> Result<String, Fail> {
-    let mut edit = String::from_str(alloc, "{\"client\":0,\"diff\":{")?;
+/// A diff that puts pages of these numbers.
+fn pages(alloc: Global, from: u32, to: u32) -> Result<String, Fail> {
+    let mut diff = String::from_str(alloc, "{")?;
     for number in from..to {
         if number > from {
-            edit.push(',')?;
+            diff.push(',')?;
         }
-        edit.push_str(format!(in alloc;
+        diff.push_str(format!(in alloc;
             "\"page:{number}\":[\"put\",{{\"id\":\"page:{number}\",\"index\":\"a0\",\"meta\":{{}},\"name\":\"\",\"typeName\":\"page\"}}]"
         )?.as_str())?;
     }
-    edit.push_str("},\"do\":\"edit\"}")?;
-    Ok(edit)
+    diff.push('}')?;
+    Ok(diff)
+}
+
+/// An edit that puts pages of these numbers.
+fn puts(alloc: Global, from: u32, to: u32) -> Result<String, Fail> {
+    let diff = pages(alloc, from, to)?;
+    Ok(format!(in alloc; "{{\"client\":0,\"diff\":{diff},\"do\":\"edit\"}}")?)
 }
 
 #[test]
@@ -499,6 +509,8 @@ fn takes_no_other_words(rt: HostRuntime) -> Result<(), Fail> {
         "fly",
         "replay --trace",
         "make 7 2000",
+        "make 0 0",
+        "make 18446744073709551616 1",
         "--help",
     ] {
         let mut source = SteadySource::new(b"{}".to_vec(alloc)?, 4096);
@@ -507,4 +519,62 @@ fn takes_no_other_words(rt: HostRuntime) -> Result<(), Fail> {
         assert_eq!(rt; sink.bytes(), b"".as_slice());
     }
     Ok(())
+}
+
+/// Hands a room a message of a session that has entered, which it takes.
+fn hands(
+    rt: &impl Abort,
+    alloc: Global,
+    rules: &Rules,
+    room: Room,
+    session: u64,
+    message: &ClientMessage,
+) -> Result<Room, Fail> {
+    assert!(rt; session < room.sessions());
+    let (room, handled) = room.handle(alloc, rules, session, message)?;
+    assert_eq!(rt; handled, Handled::Taken);
+    Ok(room)
+}
+
+/// A further session of a room is connected, and is sent this.
+fn connects(
+    rt: &impl Abort,
+    alloc: Global,
+    rules: &Rules,
+    mut room: Room,
+) -> Result<(Room, ServerMessage), Fail> {
+    let session = room.enter()?;
+    let wish = ClientMessage::Connect {
+        connect_request_id: Text::of(alloc, "0")?,
+        last_server_clock: -1,
+    };
+    let mut room = hands(rt, alloc, rules, room, session, &wish)?;
+    assert!(rt; session < room.sessions());
+    match room.drain(alloc, session)? {
+        Some(answer) => Ok((room, answer)),
+        None => Err(Fail::from("an answer was to come")),
+    }
+}
+
+#[test]
+fn sends_a_session_a_large_document(rt: HostRuntime) -> Result<(), Fail> {
+    let alloc = rt.alloc();
+    let rules = Rules::new(alloc)?;
+    let (room, _) = connects(&rt, alloc, &rules, Room::new(alloc))?;
+    let text = pages(alloc, 10_000, 14_096)?;
+    let diff = read_diff(alloc, &Val::read(alloc, text.as_bytes())?)?;
+    let push = ClientMessage::Push {
+        client_clock: 1,
+        diff: Some(diff),
+    };
+    let room = hands(&rt, alloc, &rules, room, 0, &push)?;
+    let (_, answer) = connects(&rt, alloc, &rules, room)?;
+    match &answer {
+        ServerMessage::Connect { diff, .. } => {
+            let sent = diff_val(alloc, diff)?.print(alloc)?;
+            assert_eq!(rt; sent.as_slice(), text.as_bytes());
+            Ok(())
+        }
+        ServerMessage::Data { .. } => Err(Fail::from("an answer was to come")),
+    }
 }

@@ -1,9 +1,9 @@
 //! The lines that a replay writes, each with its newline.
 ghost use Rattle.std.specs.Prelude.{◌≡◌, ◌<◌, ◌^◌, length, IfOk};
 ghost use Rattle.std.specs.Prelude.{OnOk};
-ghost use Rattle.rooms_val.specs.Maps.{put};
+ghost use Rattle.rooms_val.specs.Maps.{with_key};
 ghost use Rattle.rooms_val.specs.View.{data_of};
-ghost use Rattle.room_model.specs.Histories.{document_of};
+ghost use Rattle.first_model.specs.Histories.{document_of};
 ghost use Rattle.rooms.specs.Clients.{shown};
 ghost use Rattle.rooms.specs.Texts.{line_of, fault_line, show_line, end_line};
 
@@ -58,7 +58,7 @@ pub(crate) fn end_line(alloc: Global, room: &Room) -> Mem<Vec<u8>>
 }
 
 fn put(alloc: Global, fields: &mut Fields, key: &str, val: Val) -> Mem<()>
-    ensures { OnOk result (fields.new ≡ put fields.old key.now (data_of val)) }
+    ensures { OnOk result (fields.new ≡ with_key fields.old key.now (data_of val)) }
 {
     drop(fields.put(Text::of(alloc, key)?, val)?);
     Ok(())

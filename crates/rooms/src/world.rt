@@ -1,6 +1,6 @@
 //! A room, its client, what is under way between them, and what events do.
 ghost use Rattle.std.specs.Prelude.{◌≡◌, ◌<◌, ◌↔◌, ◌==◌, IsTrue, ◌++◌, [], length, if◌then◌else◌, IfOk, OnOk, None};
-ghost use Rattle.room_model.specs.Worlds as model;
+ghost use Rattle.first_model.specs.Worlds as model;
 ghost use Rattle.rooms.specs.Clients.{completes, is_document, is_admitted, unpushed, after_pushes};
 ghost use Rattle.rooms.specs.Replay.{happened, moved, shown};
 ghost use Rattle.rooms.specs.Replies.{Answers};
@@ -13,12 +13,12 @@ use crate::room::Room;
 use crate::rules::Rules;
 use crate::texts::{end_line, show_line};
 use field_ops::Diff;
+use first_msgs::{ClientMessage, ServerMessage};
 use rooms_val::{Mem, Steps};
 use std::alloc::Global;
 use std::collections::VecDeque;
 use std::mem;
 use std::sync::ledger::Ledger;
-use sync_msgs::{ClientMessage, ServerMessage};
 
 /// The number of the one client, and that of its session.
 const ONLY: u64 = 0;

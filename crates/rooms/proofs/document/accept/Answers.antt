@@ -1,6 +1,6 @@
 use Rattle.std.proofs.Common.{◌+◌, drop, ap, subst}
 use Rattle.field_ops.specs.ViewRecordOps.{change_of, changes_view}
-use Rattle.field_ops.proofs.Stages.{one_off}
+use Rattle.rooms_val.proofs.ListLemmas.{one_off}
 use Rattle.rooms.proofs.Accepting.{Accepts, accepts_next}
 use Rattle.rooms.proofs.document.accept.Goals as goal
 

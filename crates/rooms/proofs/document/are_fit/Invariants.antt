@@ -1,6 +1,6 @@
 use Rattle.std.proofs.Common.{◌≡◌, drop}
 use Rattle.field_ops.specs.ViewRecordOps.{changes_view}
-use Rattle.room_model.specs.Accepting.{are_fit}
+use Rattle.first_model.specs.Accepting.{are_fit}
 use Rattle.rooms.specs.Clients.{is_document, is_admitted}
 use Rattle.rooms.proofs.document.are_fit.Given as goal
 

@@ -1,6 +1,6 @@
 use Rattle.std.proofs.Common.{◌≡◌, drop}
 use Rattle.field_ops.specs.ViewRecordOps.{changes_view}
-use Rattle.room_model.specs.Documents.{step}
+use Rattle.doc_model.specs.Documents.{step}
 use Rattle.rooms.specs.Clients.{is_admitted}
 use Rattle.rooms.proofs.document.step.Given as goal
 

@@ -4,7 +4,7 @@ use Rattle.std.specs.Io.KnownBytes.{Consumes, IsAtEnd}
 use Rattle.rooms.specs.Lines.{lines_of}
 use Rattle.rooms.specs.Replay.{written, unended_fault}
 use Rattle.rooms.specs.Runs.{Finishes}
-use Rattle.rooms.proofs.Recorded.{leaves_read, leaves_nothing, reads_front}
+use Rattle.rooms.proofs.Recorded.{leaves_read, leaves_nothing}
 use Rattle.rooms.proofs.play.replay_job.Goals as goal
 
 pub returns-in_err-bytes-clause-leaves : goal.returns-in_err-bytes-clause-leaves
@@ -24,13 +24,3 @@ returns-clause-leaves g c =
     (subst (λ n. n ≤ 1073741824) (sym long) read.bound)
     (subst (λ n. n < 1073741824 → IsAtEnd (left c.read_up_to.new.source)) (sym long) read.end)
     (subst (λ n. Finishes (written (unended_fault (nat_lt n 1073741824)) None 1 (lines_of (nat_lt n 1073741824) bytes)) c.play.result (held c.args.sink.now) (held c.play.new.sink)) (c.len.ensures ∙ sym long) c.play.ensures.finishes)
-
-pub returns-clause-reads : goal.returns-clause-reads
-returns-clause-reads g c =
-    let left = g.S.Source.left in
-    let read = c.in_ok-bytes.ensures in
-    let long = c.deref.ensures.len in
-    reads_front (left c.args.source.now) (left c.read_up_to.new.source) 1073741824 c.deref.result.now c.play.result refl
-    (subst (Consumes (left c.args.source.now) (left c.read_up_to.new.source)) (sym c.deref.ensures.value) read.bytes)
-    (subst (λ n. n ≤ 1073741824) (sym long) read.bound)
-    (subst (λ n. n < 1073741824 → IsAtEnd (left c.read_up_to.new.source)) (sym long) read.end)

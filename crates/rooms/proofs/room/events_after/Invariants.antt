@@ -1,5 +1,5 @@
 use Rattle.std.proofs.Common.{◌≡◌, ◌+◌, ◌++◌, drop}
-use Rattle.room_model.specs.Messages.{events_after}
+use Rattle.first_model.specs.Messages.{events_after}
 use Rattle.rooms.proofs.room.events_after.Given as goal
 
 -- the events so far, with those of the entries that are left, are those of all

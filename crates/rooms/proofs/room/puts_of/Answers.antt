@@ -2,17 +2,17 @@ use Rattle.std.proofs.Common.{◌+◌, ◌++◌, drop, sym, ap, subst, ◌∙◌
 use Rattle.rooms_val.specs.Data.{map, members_of, IsSound}
 use Rattle.rooms_val.specs.View.{data_of, pairs_view}
 use Rattle.field_ops.specs.RecordOps.{put}
-use Rattle.field_ops.specs.Entries.{AreRising, with_key}
-use Rattle.field_ops.proofs.Soundness.{rising_fields}
-use Rattle.field_ops.proofs.Stages.{one_off}
-use Rattle.room_model.specs.Messages.{puts_of}
+use Rattle.rooms_val.specs.Maps.{AreRising, with_key}
+use Rattle.rooms_val.proofs.DataLemmas.{rising_pairs}
+use Rattle.rooms_val.proofs.ListLemmas.{one_off}
+use Rattle.first_model.specs.Messages.{puts_of}
 use Rattle.rooms.proofs.Accepting.{Puts, puts_next, rising-puts_of}
 use Rattle.rooms.proofs.room.puts_of.Goals as goal
 
 pub loop-id-init : goal.loop-id-init
 loop-id-init c =
     let ps = pairs_view c.as_slice-id-items.result.now in
-    let rising = rising_fields ps (subst (λ f. IsSound (map (members_of f))) (sym c.as_slice-id-items.ensures.pairs) c.as_slice-id-items.ensures.sound) in
+    let rising = rising_pairs ps (subst (λ f. IsSound (map (members_of f))) (sym c.as_slice-id-items.ensures.pairs) c.as_slice-id-items.ensures.sound) in
     record {
       puts = ap (λ d. d ++ puts_of ps) c.new-diff.ensures;
       rising = subst (λ d. AreRising (d ++ puts_of ps)) (sym c.new-diff.ensures) (rising-puts_of ps rising);

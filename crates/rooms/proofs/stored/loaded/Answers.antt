@@ -1,16 +1,16 @@
 use Rattle.std.proofs.Common.{◌+◌, ◌++◌, drop, sym, ap, subst, ◌∙◌}
 use Rattle.rooms_val.specs.Data.{map, members_of, IsSound}
 use Rattle.rooms_val.specs.View.{data_of, pairs_view}
-use Rattle.field_ops.specs.Entries.{AreRising, with_key}
-use Rattle.field_ops.proofs.Soundness.{rising_fields}
-use Rattle.field_ops.proofs.Stages.{one_off}
+use Rattle.rooms_val.specs.Maps.{AreRising, with_key}
+use Rattle.rooms_val.proofs.DataLemmas.{rising_pairs}
+use Rattle.rooms_val.proofs.ListLemmas.{one_off}
 use Rattle.rooms.proofs.Storing.{Loads, loads_next}
 use Rattle.rooms.proofs.stored.loaded.Goals as goal
 
 pub loop-id-init : goal.loop-id-init
 loop-id-init g c =
     let ps = pairs_view c.as_slice-id-items.result.now in
-    let rising = rising_fields ps (subst (λ f. IsSound (map (members_of f))) (sym c.as_slice-id-items.ensures.pairs) c.as_slice-id-items.ensures.sound) in
+    let rising = rising_pairs ps (subst (λ f. IsSound (map (members_of f))) (sym c.as_slice-id-items.ensures.pairs) c.as_slice-id-items.ensures.sound) in
     let none = ap (λ d. d.0) c.new-document.ensures in
     (record { whole = ap (λ d. d ++ ps) none; rising = subst (λ d. AreRising (d ++ ps)) (sym none) rising }, ap (λ d. d.1) c.new-document.ensures)
 

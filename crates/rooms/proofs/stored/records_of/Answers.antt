@@ -1,13 +1,13 @@
 use Rattle.std.proofs.Common.{◌+◌, drop, subst, ◌∙◌, arith}
 use Rattle.std.proofs.lemmas.List.{drop_all}
-use Rattle.field_ops.proofs.Soundness.{rising_fields}
-use Rattle.field_ops.proofs.Stages.{one_off}
+use Rattle.rooms_val.proofs.DataLemmas.{rising_pairs}
+use Rattle.rooms_val.proofs.ListLemmas.{one_off}
 use Rattle.rooms.proofs.Storing.{Copies, copies_first, copies_next, copied_all}
 use Rattle.rooms.proofs.stored.records_of.Goals as goal
 
 pub loop-id-init : goal.loop-id-init
 loop-id-init c =
-    copies_first c.args.document.now.0 c.deref-id-items.result.now c.new-records.result (rising_fields c.args.document.now.0 c.get.ensures.sound) (c.deref-id-items.ensures.value ∙ c.in_ok-ids.ensures) c.new-records.ensures
+    copies_first c.args.document.now.0 c.deref-id-items.result.now c.new-records.result (rising_pairs c.args.document.now.0 c.get.ensures.sound) (c.deref-id-items.ensures.value ∙ c.in_ok-ids.ensures) c.new-records.ensures
 
 pub loop-id-preserved : goal.loop-id-preserved
 loop-id-preserved c =

@@ -1,5 +1,5 @@
 use Rattle.std.proofs.Common.{◌≡◌, [], ◌++◌}
-use Rattle.room_model.specs.Documents.{replayed}
+use Rattle.doc_model.specs.Documents.{replay as replayed}
 use Rattle.rooms.specs.Clients.{is_admitted}
 use Rattle.rooms.proofs.stored.replayed.Given as goal
 

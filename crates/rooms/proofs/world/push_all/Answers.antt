@@ -1,5 +1,5 @@
 use Rattle.std.proofs.Common.{◌++◌, ◌∷◌, [], refl, sym, ap, subst, ◌∙◌, append_assoc, append-nil}
-use Rattle.room_model.specs.Worlds.{pushes_of}
+use Rattle.first_model.specs.Worlds.{pushes_of}
 use Rattle.rooms.specs.Clients.{unpushed, GivesPush}
 use Rattle.rooms.proofs.Pushing.{counted_first, counted_next, counted_all}
 use Rattle.rooms.proofs.world.push_all.Goals as goal

@@ -1,5 +1,5 @@
 use Rattle.std.proofs.Common.{◌≡◌, ◌++◌, length}
-use Rattle.room_model.specs.Worlds.{pushes_of}
+use Rattle.first_model.specs.Worlds.{pushes_of}
 use Rattle.rooms.specs.Clients.{unpushed}
 use Rattle.rooms.proofs.Pushing.{Counted}
 use Rattle.rooms.proofs.world.push_all.Given as goal

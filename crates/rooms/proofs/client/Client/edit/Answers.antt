@@ -1,6 +1,6 @@
 use Rattle.std.proofs.Common.{[], ap, sym, ◌∙◌}
-use Rattle.room_model.specs.Documents.{step}
-use Rattle.room_model.proofs.Laws.{replayed-push}
+use Rattle.doc_model.specs.Documents.{step}
+use Rattle.doc_model.proofs.ReplayLemmas.{replay-push as replayed-push}
 use Rattle.rooms.specs.Clients.{is_admitted, shown}
 use Rattle.rooms.proofs.client.Client.edit.Goals as goal
 

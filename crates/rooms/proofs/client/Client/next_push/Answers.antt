@@ -1,9 +1,9 @@
 use Rattle.std.proofs.Common.{rules, ◌≡◌, ◌+◌, ◌∷◌, Option, Some, true, pos, slice_get, to_z, w64, is_some, cond, refl, sym, ap, subst, ◌∙◌, arith}
 use Rattle.field_ops.specs.RecordOps.{RecordOps}
-use Rattle.room_model.specs.Worlds.{pushes_of}
+use Rattle.first_model.specs.Worlds.{pushes_of}
 use Rattle.rooms.specs.Clients.{Held, Holding, is_open, unpushed, after_pushes}
 use Rattle.rooms.proofs.Pushing.{GivesNone, gives_full, gives_past, gives_there}
-use Rattle.sync_msgs.specs.declared.client_message.ClientMessage.TheVariants.{Push}
+use Rattle.first_msgs.specs.declared.client_message.ClientMessage.TheVariants.{Push}
 use Rattle.rooms.proofs.client.Client.next_push.Goals as goal
 
 pub returns-then-self-ge-MOST_PUSHES : goal.returns-then-self-ge-MOST_PUSHES

@@ -1,6 +1,7 @@
 use Rattle.std.proofs.Common.{[], sym, ap, ◌∙◌}
-use Rattle.room_model.specs.Histories.{document_of, folded}
-use Rattle.room_model.proofs.Folding.{folded_all-append, folded-accepted}
+use Rattle.first_model.specs.Histories.{document_of}
+use Rattle.doc_model.specs.Documents.{fold_raw as folded}
+use Rattle.first_model.proofs.Folding.{folded_all-append, folded-accepted}
 use Rattle.rooms.specs.Clients.{is_admitted}
 use Rattle.rooms.proofs.room.Room.push.Goals as goal
 

@@ -1,7 +1,7 @@
 use Rattle.std.proofs.Common.{◌≡◌, sym, subst, ◌∙◌}
 use Rattle.std.specs.Prelude.{OnOk, []}
 use Rattle.schema_core.specs.SchemaOf.{schema_tree}
-use Rattle.room_model.specs.Documents.{step}
+use Rattle.doc_model.specs.Documents.{step}
 use Rattle.rooms.specs.Rules.{is_admitted}
 use Rattle.rooms.proofs.Ruling.{step_same}
 use Rattle.rooms.proofs.rules.Rules.apply.Goals as goal

@@ -1,5 +1,5 @@
 use Rattle.std.proofs.Common.{◌≡◌, ◌++◌, length, Some, option_to_list, sym, ap, subst, ◌∙◌}
-use Rattle.room_model.specs.Worlds.{after_deliver, pushes_of}
+use Rattle.first_model.specs.Worlds.{after_deliver, pushes_of}
 use Rattle.rooms.specs.Clients.{after_pushes, unpushed}
 use Rattle.rooms.specs.Standing.{StandsFor}
 use Rattle.rooms.specs.declared.world.Link as code

@@ -1,5 +1,5 @@
 use Rattle.std.proofs.Common.{◌≡◌, Some, sym, ap, subst, ◌∙◌}
-use Rattle.room_model.specs.Worlds.{after_edit}
+use Rattle.first_model.specs.Worlds.{after_edit}
 use Rattle.rooms.specs.Clients.{completes, is_admitted, shown}
 use Rattle.rooms.specs.Standing.{StandsFor, PushesUp}
 use Rattle.rooms.proofs.Edits.{Becomes, kept_with, edits}

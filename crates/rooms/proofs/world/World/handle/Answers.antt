@@ -1,6 +1,6 @@
 use Rattle.std.proofs.Common.{◌≡◌, ◌∷◌, ◌++◌, Some, option_to_list, refl, sym, ap, subst, ◌∙◌}
-use Rattle.room_model.specs.Rooms.{after_message}
-use Rattle.room_model.specs.Worlds.{after_handle}
+use Rattle.first_model.specs.Rooms.{after_message}
+use Rattle.first_model.specs.Worlds.{after_handle}
 use Rattle.rooms.specs.Clients.{is_document, is_admitted}
 use Rattle.rooms.specs.Handling.{Handles}
 use Rattle.rooms.specs.Replay.{moved}

@@ -1,6 +1,6 @@
 use Rattle.std.proofs.Common.{◌≡◌, Option, Some, is_some, cond, refl, sym, subst, ◌∙◌}
-use Rattle.room_model.specs.Rooms.{next_message, after_drain}
-use Rattle.room_model.specs.Worlds.{after_send}
+use Rattle.first_model.specs.Rooms.{next_message, after_drain}
+use Rattle.first_model.specs.Worlds.{after_send}
 use Rattle.rooms.specs.Replay.{moved}
 use Rattle.rooms.specs.Replies.{Answers}
 use Rattle.rooms.specs.Standing.{StandsFor}
@@ -9,7 +9,7 @@ use Rattle.rooms.specs.declared.world.Reply.TheVariants.{Wrote}
 use Rattle.rooms.proofs.Edits.{Becomes}
 use Rattle.rooms.proofs.Replying.{wrote}
 use Rattle.rooms.proofs.Sends.{sends}
-use Rattle.sync_msgs.specs.declared.server_message.ServerMessage.{ServerMessage}
+use Rattle.first_msgs.specs.declared.server_message.ServerMessage.{ServerMessage}
 use Rattle.rooms.proofs.world.World.send.Goals as goal
 
 pub returns : goal.returns
