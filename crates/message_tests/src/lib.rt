@@ -1,0 +1,7 @@
+//! Tests of the calls on messages. The crate has no code of its own.
+#![tactic(auto)]
+
+#[cfg(test)]
+mod messages;
+#[cfg(test)]
+mod recordings;

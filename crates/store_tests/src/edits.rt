@@ -1,0 +1,89 @@
+//! What edits are completed to, and why they are refused.
+use crate::stores::{diff, schema, two_shapes};
+use case_tables::{cells, printed, rows, value};
+use doc_store::MapDoc;
+use field_ops::{Diff, diff_val, read_diff};
+use rooms_val::{Fields, Text, Val};
+use schema_core::{RecordFault, Schema};
+use side_effects::{EditFault, complete};
+use std::alloc::Global;
+use std::test::Fail;
+
+/// What an edit is completed to, or the name of the fault with its id.
+fn answer(alloc: Global, schema: &Schema, store: &MapDoc, edit: &Diff) -> Result<String, Fail> {
+    match complete(alloc, schema, store, edit) {
+        Ok(made) => printed(alloc, &diff_val(alloc, &made)?),
+        Err(fault) => told(alloc, &fault),
+    }
+}
+
+fn told(alloc: Global, fault: &EditFault) -> Result<String, Fail> {
+    Ok(match fault {
+        EditFault::TooMany => String::from_str(alloc, "TooMany")?,
+        EditFault::WrongScope(id) => format!(in alloc; "WrongScope {}", id.as_str())?,
+        EditFault::NoRecord(id) => format!(in alloc; "NoRecord {}", id.as_str())?,
+        EditFault::Invalid(id, RecordFault::Rejected(_)) => {
+            format!(in alloc; "Rejected {}", id.as_str())?
+        }
+        EditFault::Invalid(id, fault) => format!(in alloc; "{fault:?} {}", id.as_str())?,
+        EditFault::OutOfMemory => String::from_str(alloc, "OutOfMemory")?,
+    })
+}
+
+/// An edit of two shapes, and the answer: the fault by the first rule, with the least id, or the edit.
+const EDITS: &str = r#"
+{"shape:1":["patch",{"x":["put",7]}],"shape:2":["remove"]} | =
+{} | =
+# Ids of sessions, of no type and of no form.
+{"camera:1":["remove"],"camera:2":["remove"]} | WrongScope camera:1
+{"shape:9":["remove"],"thing:1":["put",{}]} | WrongScope thing:1
+{"shape":["remove"],"shape:1":["put",{}]} | WrongScope shape
+# Records that aren't there.
+{"shape:1":["patch",{"x":["put",700]}],"shape:3":["patch",{}],"shape:4":["remove"]} | NoRecord shape:3
+{"shape:1":["remove"],"shape:4":["remove"]} | NoRecord shape:4
+# Records that aren't admitted.
+{"shape:1":["patch",{"x":["put",700]}],"shape:2":["put",{}]} | Rejected shape:1
+{"shape:1":["remove"],"shape:2":["put",{"id":"shape:1","typeName":"shape","x":1}]} | BadId shape:2
+"#;
+
+#[test]
+fn refuses_by_the_first_rule_and_the_least_id(rt: HostRuntime) -> Result<(), Fail> {
+    let alloc = rt.alloc();
+    let schema = schema(alloc)?;
+    let store = two_shapes(alloc, &schema)?;
+    for row in &rows(alloc, EDITS)? {
+        let [text, wanted, ..] = cells(row);
+        let found = answer(alloc, &schema, &store, &diff(alloc, text)?)?;
+        let wanted = if wanted == "=" { text } else { wanted };
+        assert_eq!(rt; found.as_str(), wanted, "at {text}");
+    }
+    Ok(())
+}
+
+#[test]
+fn takes_8192_operations_and_no_more(rt: HostRuntime) -> Result<(), Fail> {
+    let alloc = rt.alloc();
+    let schema = schema(alloc)?;
+    let store = MapDoc::new(alloc);
+    let most = removes(alloc, 8_192)?;
+    assert_eq!(rt;
+        answer(alloc, &schema, &store, &most)?.as_str(),
+        "NoRecord shape:0000"
+    );
+    let more = removes(alloc, 8_193)?;
+    assert_eq!(rt; answer(alloc, &schema, &store, &more)?.as_str(), "TooMany");
+    Ok(())
+}
+
+/// A diff of so many removes.
+fn removes(alloc: Global, count: u32) -> Result<Diff, Fail> {
+    let mut fields = Fields::new(alloc);
+    for place in 0..count {
+        let id = format!(in alloc; "shape:{place:04}")?;
+        drop(fields.put(
+            Text::of(alloc, id.as_str())?,
+            value(alloc, r#"["remove"]"#)?,
+        )?);
+    }
+    Ok(read_diff(alloc, &Val::Map(fields))?)
+}

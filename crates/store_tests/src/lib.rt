@@ -1,0 +1,12 @@
+//! Tests of the calls of the store layer, as tables: diffs that are applied to a store, transactions, and edits that are
+//! completed or refused. The crate has no code of its own.
+#![tactic(auto)]
+
+#[cfg(test)]
+mod changes;
+#[cfg(test)]
+mod edits;
+#[cfg(test)]
+mod lists;
+#[cfg(test)]
+mod stores;

@@ -1,0 +1,148 @@
+//! What diffs make of a store, and what transactions bring back.
+ghost use Rattle.std.specs.Prelude.{◌≡◌, ◌<◌};
+
+use case_tables::{cells, printed, rows, value};
+use doc_store::{DocStore, MapDoc, TxnFault, apply};
+use field_ops::{Diff, diff_val, read_diff};
+use migrate_seq::Sequences;
+use record_valid::{Check, Checks};
+use rooms_val::{Steps, Text};
+use schema_core::{Schema, Scope, TypeRow};
+use std::alloc::Global;
+use std::marker::Brand;
+use std::process::Abort;
+use std::sync::ledger::{Blank, Ledger};
+use std::test::Fail;
+
+/// A type whose records have an `id`, a `typeName` and a number `x` from 0 to 100.
+fn row(alloc: Global, name: &str, scope: Scope) -> Result<TypeRow, Fail> {
+    let fields = Checks::new(alloc)
+        .with(alloc, "id", Check::id_of(alloc, &[name])?)?
+        .with(alloc, "typeName", Check::Text(9))?
+        .with(alloc, "x", Check::Whole(0, 100))?;
+    Ok(TypeRow {
+        name: Text::of(alloc, name)?,
+        scope,
+        check: Check::Object(fields),
+    })
+}
+
+/// Shapes of the document and cameras of sessions.
+pub(crate) fn schema(alloc: Global) -> Result<Schema, Fail> {
+    let mut rows = Vec::new(alloc);
+    rows.push(row(alloc, "shape", Scope::Document)?)?;
+    rows.push(row(alloc, "camera", Scope::Session)?)?;
+    let sequences = Sequences::build(alloc, Vec::new(alloc))?;
+    Ok(Schema::build(alloc, rows, sequences)?)
+}
+
+/// The diff of a text.
+pub(crate) fn diff(alloc: Global, text: &str) -> Result<Diff, Fail> {
+    Ok(read_diff(alloc, &value(alloc, text)?)?)
+}
+
+/// A store with two shapes.
+pub(crate) fn two_shapes(alloc: Global, schema: &Schema) -> Result<MapDoc, Fail> {
+    let mut store = MapDoc::new(alloc);
+    drop(applied(alloc, &mut store, schema, &diff(alloc, BOTH)?)?);
+    Ok(store)
+}
+
+const BOTH: &str =
+    r#"{"shape:1":["put",{"id":"shape:1","typeName":"shape","x":1}],"shape:2":["put",{"id":"shape:2","typeName":"shape","x":2}]}"#;
+
+/// Asserts which records a store has, each as its id and its `x`.
+fn has(rt: &impl Abort, alloc: Global, store: &MapDoc, wanted: &str) -> Result<(), Fail> {
+    let mut text = String::new(alloc);
+    for id in &store.ids(alloc)? {
+        if let Some(record) = store.get(id.as_str()) {
+            if let Some(x) = record.get("x") {
+                let part = format!(in alloc; "{} {};", id.as_str(), printed(alloc, x)?)?;
+                text.push_str(part.as_str())?;
+            }
+        }
+    }
+    assert_eq!(rt; text.as_str(), wanted);
+    Ok(())
+}
+
+fn applied_in<L: Ledger>(
+    blank: Blank,
+    alloc: Global,
+    store: &mut MapDoc,
+    schema: &Schema,
+    diff: &Diff,
+) -> Result<Diff, TxnFault>
+    requires name { blank.name ≡ L.name }
+    requires parts { blank.parts ≡ L.parts }
+    requires some { 0 < blank.parts }
+    ensures { store.new.1 ≡ store.old.1 }
+{
+    let mut steps = Steps::<L>::new(blank);
+    let back = apply(alloc, store, schema, diff, &mut steps)?;
+    drop(apply(alloc, store, schema, &back, &mut steps)?);
+    apply(alloc, store, schema, diff, &mut steps)
+}
+
+/// Applies a diff and what undoes it, and then the diff again. The steps are counted for nobody.
+fn applied(
+    alloc: Global,
+    store: &mut MapDoc,
+    schema: &Schema,
+    diff: &Diff,
+) -> Result<Diff, TxnFault>
+    ensures { store.new.1 ≡ store.old.1 }
+{
+    applied_in::<Brand>(Blank::new(1), alloc, store, schema, diff)
+}
+
+/// A diff, what it leaves of two shapes, and the diff that undoes it.
+const DIFFS: &str = r#"
+{"shape:1":["patch",{"x":["put",7]}]} | shape:1 7;shape:2 2; | {"shape:1":["patch",{"x":["put",1]}]}
+# What the schema refuses is passed over, and so is a change of what isn't there.
+{"shape:1":["patch",{"x":["put",700]}],"shape:2":["remove"],"shape:3":["remove"]} | shape:1 1; | {"shape:2":["put",{"id":"shape:2","typeName":"shape","x":2}]}
+{"shape:3":["patch",{"x":["put",7]}]} | shape:1 1;shape:2 2; | {}
+# A put acts always.
+{"shape:1":["put",{"x":700}],"shape:3":["put",{"x":1}]} | shape:1 700;shape:2 2;shape:3 1; | {"shape:1":["put",{"id":"shape:1","typeName":"shape","x":1}],"shape:3":["remove"]}
+"#;
+
+#[test]
+fn applies_what_acts_and_tells_what_undoes_it(rt: HostRuntime) -> Result<(), Fail> {
+    let alloc = rt.alloc();
+    let schema = schema(alloc)?;
+    for row in &rows(alloc, DIFFS)? {
+        let [text, left, back, ..] = cells(row);
+        let mut store = two_shapes(alloc, &schema)?;
+        let undo = applied(alloc, &mut store, &schema, &diff(alloc, text)?)?;
+        has(&rt, alloc, &store, left)?;
+        assert_eq!(rt;
+            printed(alloc, &diff_val(alloc, &undo)?)?.as_str(),
+            back,
+            "at {text}"
+        );
+    }
+    Ok(())
+}
+
+#[test]
+fn brings_back_what_a_transaction_began_with(rt: HostRuntime) -> Result<(), Fail> {
+    let alloc = rt.alloc();
+    let schema = schema(alloc)?;
+    let mut store = two_shapes(alloc, &schema)?;
+    let remove = diff(alloc, r#"{"shape:1":["remove"]}"#)?;
+    store.begin()?;
+    drop(applied(alloc, &mut store, &schema, &remove)?);
+    has(&rt, alloc, &store, "shape:2 2;")?;
+    store.abort();
+    has(&rt, alloc, &store, "shape:1 1;shape:2 2;")
+}
+
+#[test]
+fn opens_sixteen_transactions_and_no_more(rt: HostRuntime) -> Result<(), Fail> {
+    let mut store = MapDoc::new(rt.alloc());
+    for _ in 0..16u32 {
+        store.begin()?;
+    }
+    assert_eq!(rt; store.begin(), Err(TxnFault::TooNested));
+    Ok(())
+}

@@ -1,0 +1,9 @@
+//! Tests of the calls of the value layer, as tables. The crate has no code of its own.
+#![tactic(auto)]
+
+#[cfg(test)]
+mod calls;
+#[cfg(test)]
+mod keys;
+#[cfg(test)]
+mod values;
