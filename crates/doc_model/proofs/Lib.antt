@@ -2,3 +2,5 @@ pub mod ReplayLemmas
 pub mod InverseLemmas
 pub mod MergeLemmas
 pub mod MarkLemmas
+pub mod PlainLemmas
+pub mod RestoreLemmas

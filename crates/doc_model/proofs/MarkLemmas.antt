@@ -1,10 +1,10 @@
 -- How a history falls into what stays, the inverses that an undo takes back, and the marks that it drops.
-use Rattle.std.proofs.Common.{◌≡◌, ℕ, suc, ◌+◌, ◌-◌, ◌<◌, List, [], ◌∷◌, ◌++◌, length, map, reverse, take, drop, filter_map, Bool, true, false, not, ◌&&◌, ◌||◌, ◌≢◌, cond, Option, Some, None, refl, sym, ap, subst, ◌∙◌, arith}
+use Rattle.std.proofs.Common.{◌≡◌, ℕ, suc, ◌+◌, ◌-◌, ◌<◌, List, [], ◌∷◌, ◌++◌, length, map, reverse, take, drop, filter_map, Bool, true, false, not, ◌&&◌, ◌||◌, ◌≢◌, cond, Some, None, refl, sym, ap, subst, ◌∙◌, arith}
 use Rattle.std.proofs.Math.Seq.{drop-append_seam, take-append_seam}
 use Rattle.std.specs.List.{prefix_len, suffix_len, list_all, list_any, before_last, after_last}
 use Rattle.std.proofs.lemmas.Slice.Eq.{bytes_eq-Decides}
 use Rattle.std.specs.Str.{bytes_eq}
-use Rattle.std.proofs.lemmas.List.{reverse-append, length-append, length-reverse, append_assoc, take-append-drop}
+use Rattle.std.proofs.lemmas.List.{reverse-append, length-append, length-reverse, append_assoc}
 use Rattle.std.proofs.lemmas.List.Folds.{list_all-append}
 use Rattle.field_ops.specs.RecordOps.{RecordOps}
 use Rattle.doc_model.specs.Merging.{merge}
@@ -53,7 +53,7 @@ module _ {X : Type 0} (p : X → Bool) where
       omega (arith, n, m)
 
 -- nothing passes at the end of a list whose last part has something, none of which passes
-suffix_none : {X : Type 0} (p : X → Bool) (xs ys : List X) → list_all (λ y. not (p y)) ys ≡ true → 0 < length ys → suffix_len p (xs ++ ys) ≡ 0
+pub suffix_none : {X : Type 0} (p : X → Bool) (xs ys : List X) → list_all (λ y. not (p y)) ys ≡ true → 0 < length ys → suffix_len p (xs ++ ys) ≡ 0
 suffix_none p xs ys none some =
     let there : 0 < length (reverse ys) = subst (λ n. 0 < n) (sym (length-reverse ys)) some in
     ap (prefix_len p) (reverse-append xs ys) ∙ prefix_none p (reverse ys) (reverse xs) (all-reverse (λ y. not (p y)) ys ∙ none) there
@@ -80,7 +80,7 @@ names-marks : (names : List (List ℕ)) → filter_map name_in (map mark names) 
 names-marks [] = refl
 names-marks (name ∷ names) = ap (λ rest. name ∷ rest) (names-marks names)
 
-diffs-inverses : (diffs : List RecordOps) → filter_map diff_in (map inverse diffs) ≡ diffs
+pub diffs-inverses : (diffs : List RecordOps) → filter_map diff_in (map inverse diffs) ≡ diffs
 diffs-inverses [] = refl
 diffs-inverses (diff ∷ diffs) = ap (λ rest. diff ∷ rest) (diffs-inverses diffs)
 

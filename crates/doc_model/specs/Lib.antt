@@ -2,3 +2,4 @@ pub mod Documents
 pub mod Inverses
 pub mod Merging
 pub mod Marks
+pub mod Restoring

@@ -11,3 +11,4 @@ pub mod documents;
 pub mod inverses;
 pub mod marks;
 pub mod merging;
+pub mod restoring;
