@@ -1,6 +1,6 @@
 //! The journal by which transactions are undone.
 ghost use Rattle.std.specs.Prelude.{◌≡◌, ◌≢◌, ◌<◌, [], ◌∷◌, ℕ, List, true, IfOk, OnOk, OnErr, option_map, is_some, string_bytes};
-ghost use Rattle.rooms_val.specs.Maps.{value_at, set_at, with_key};
+ghost use Rattle.rooms_val.specs.Maps.{value_at, set_at, with_key, without_key};
 ghost use Rattle.field_ops.specs.View.{maybe_data};
 ghost use Rattle.doc_store.specs.Slots.{present, AreFull};
 ghost use Rattle.doc_store.specs.Slots as slots_spec;
@@ -63,8 +63,17 @@ pub(crate) fn write_plain(
 {
     match record_ {
         Some(val) => Ok(held(slots.put(String::from_str(alloc, id)?, Some(val))?)),
-        None => Ok(held(slots.take(id))),
+        None => Ok(take_plain(slots, id)),
     }
+}
+
+/// Takes a record away, where no transaction is open.
+pub(crate) fn take_plain(slots: &mut Slots, id: &str) -> Option<Val>
+    ensures old { maybe_data result ≡ value_at (present slots.old) id.now }
+    ensures rest { present slots.new ≡ without_key (present slots.old) id.now }
+    ensures full { AreFull slots.old → AreFull slots.new }
+{
+    held(slots.take(id))
 }
 
 /// Forgets where the newest transaction began. It costs the writes since then.

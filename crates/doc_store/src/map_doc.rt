@@ -1,5 +1,7 @@
 //! The plain store.
 ghost use Rattle.std.specs.Prelude.{◌≡◌, []};
+ghost use Rattle.rooms_val.specs.Maps.{value_at, without_key};
+ghost use Rattle.field_ops.specs.View.{maybe_data};
 
 use crate::journal;
 use crate::journal::Entry;
@@ -51,6 +53,16 @@ impl MapDoc {
             journal: Vec::new(alloc),
             depth: 0,
         }
+    }
+
+    /// Takes a record away where no transaction is open, and returns it. `None` exactly where there
+    /// is none. It takes no memory, and costs a logarithm of the number of records.
+    pub fn take(&mut self, id: &str) -> Option<Val>
+        requires { self.old.1 ≡ [] }
+        ensures old { maybe_data result ≡ value_at self.old.0 id.now }
+        ensures rest { self.new ≡ (without_key self.old.0 id.now, []) }
+    {
+        journal::take_plain(&mut self.slots, id)
     }
 }
 

@@ -3,8 +3,8 @@ use Rattle.rooms_val.specs.View.{data_of}
 use Rattle.rooms_val.specs.Maps.{value_at, set_at}
 use Rattle.field_ops.specs.View.{maybe_data}
 use Rattle.doc_store.specs.Slots.{held, present, AreFull}
-use Rattle.doc_store.proofs.SlotLaws.{get-present, present-with_key, present-without_key}
-use Rattle.doc_store.proofs.Fullness.{full-with_key, full-without_key}
+use Rattle.doc_store.proofs.SlotLaws.{get-present, present-with_key}
+use Rattle.doc_store.proofs.Fullness.{full-with_key}
 use Rattle.doc_store.proofs.journal.write_plain.Goals as goal
 
 pub returns-in_ok-put-in-Some-clause-old : goal.returns-in_ok-put-in-Some-clause-old
@@ -16,15 +16,8 @@ returns-in_ok-put-in-Some-clause-ok c =
     ap present c.in_ok-put-in-Some.ensures.ok ∙ present-with_key c.args.slots.now _ (Some (data_of c.in-Some.val))
     ∙ (λ i. set_at (present c.args.slots.now) (c.in_ok-from_str-in-Some.ensures.ok i) (maybe_data (sym c.in-Some.is i)))
 
-pub returns-in-None-clause-old : goal.returns-in-None-clause-old
-returns-in-None-clause-old c = c.held-in-None.ensures ∙ ap held c.take.ensures.old ∙ sym (get-present c.args.slots.now c.args.id.now)
-
 pub returns-in-None-clause-ok : goal.returns-in-None-clause-ok
-returns-in-None-clause-ok c =
-    ap present c.take.ensures.rest ∙ present-without_key c.args.slots.now c.args.id.now ∙ ap (λ r. set_at (present c.args.slots.now) c.args.id.now (maybe_data r)) (sym c.in-None.is)
+returns-in-None-clause-ok c = c.take_plain.ensures.rest ∙ ap (λ r. set_at (present c.args.slots.now) c.args.id.now (maybe_data r)) (sym c.in-None.is)
 
 pub returns-in_ok-put-in-Some-clause-full : goal.returns-in_ok-put-in-Some-clause-full
 returns-in_ok-put-in-Some-clause-full c full = subst AreFull (sym c.in_ok-put-in-Some.ensures.ok) (full-with_key c.args.slots.now _ (data_of c.in-Some.val) full)
-
-pub returns-in-None-clause-full : goal.returns-in-None-clause-full
-returns-in-None-clause-full c full = subst AreFull (sym c.take.ensures.rest) (full-without_key c.args.slots.now c.args.id.now full)
