@@ -42,7 +42,7 @@ all_added : (clock : ℕ) (notices : List Notice) (notice : Notice) → AreWithi
 all_added clock [] notice h new = (new, tt)
 all_added clock (n ∷ notices) notice h new = (h.0, all_added clock notices notice h.1 new)
 
-end_reached : (reason : EndReason) (c : Client) → (after_end reason c).reached ≡ c.reached
+pub end_reached : (reason : EndReason) (c : Client) → (after_end reason c).reached ≡ c.reached
 end_reached Slow c = refl
 end_reached ClientTooOld c = refl
 end_reached ServerTooOld c = refl

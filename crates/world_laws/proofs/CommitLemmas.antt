@@ -30,7 +30,7 @@ module _ {F : Type 0} (schemas : Schemas F) (lawful : AreLawful schemas) where
   document_added n part (Some d) all = filter-with_key schemas.is_document part (presence_id n) d all (presence_apart schemas lawful n)
 
   -- where the action is a commit, all of the diff was accepted
-  commit_part : (room : Room) (k : ℕ) (s : Session) (plan : Plan) (push : Push) → is_taken schemas (member_of k s plan) push ≡ true
+  pub commit_part : (room : Room) (k : ℕ) (s : Session) (plan : Plan) (push : Push) → is_taken schemas (member_of k s plan) push ≡ true
       → action_of plan push.diff (document_part schemas (member_of k s plan) (records_of room.history) push.diff) ≡ Commit
       → document_ops schemas (pushed_by schemas room k s plan push).diff ≡ push.diff
   commit_part room k s plan push taken is =

@@ -14,7 +14,7 @@ use Rattle.world_laws.proofs.SessionLemmas.{sessions_stand}
 use Rattle.world_laws.proofs.DownLemmas.{sent_stand}
 
 -- a client that waits for its answer
-waits : (x : Connection) (k : ℕ) (reached : ℤ) → session_of x ≡ Some k → IsAt x reached None → x ≡ Asking k
+pub waits : (x : Connection) (k : ℕ) (reached : ℤ) → session_of x ≡ Some k → IsAt x reached None → x ≡ Asking k
 waits Off k reached has at = absurd (cc)
 waits (Asking j) k reached has at = let same : j ≡ k = cc in ap Asking same
 waits (Open j) k reached has at = absurd (let no = at.2 in cc)

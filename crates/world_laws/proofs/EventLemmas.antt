@@ -84,11 +84,11 @@ module _ {F : Type 0} (P : World → Type 0) where
   Holds (Ok made) = P made.world
   Holds (Err fault) = Unit {0}
 
-  from_option : {X : Type 0} (next : X → Outcome F) (o : Option X) (other : Outcome F) → (o ≡ None → Holds other) → ((x : X) → o ≡ Some x → Holds (next x)) → Holds (option_map_or next o other)
+  pub from_option : {X : Type 0} (next : X → Outcome F) (o : Option X) (other : Outcome F) → (o ≡ None → Holds other) → ((x : X) → o ≡ Some x → Holds (next x)) → Holds (option_map_or next o other)
   from_option next None other h k = h refl
   from_option next (Some x) other h k = k x refl
 
-  in_session : (k : ℕ) (w : World) (next : Channel → Outcome F)
+  pub in_session : (k : ℕ) (w : World) (next : Channel → Outcome F)
       → ((s : Session) (channel : Channel) → session_at k w.room ≡ Some s → slice_get w.channels k ≡ Some channel → Holds (next channel)) → Holds (at_session k w next)
   in_session k w next h = from_option _ (session_at k w.room) _ (λ none. tt) (λ s there. from_option next (slice_get w.channels k) _ (λ none. tt) (λ channel at. h s channel there at))
 
@@ -212,7 +212,7 @@ module _ {F : Type 0} (schemas : Schemas F) (P : World → Type 0) (keeps : Keep
     show_keeps : (n : ℕ) → Holds P (on_show schemas n w)
     show_keeps n = in_client n _ (λ c at. h)
 
-    event_keeps : (trace : Bool) (e : Event) → Holds P (after_event schemas trace w e)
+    pub event_keeps : (trace : Bool) (e : Event) → Holds P (after_event schemas trace w e)
     event_keeps trace (event.Client version) = join_keeps version
     event_keeps trace (event.Connect client readonly) = connect_keeps client readonly
     event_keeps trace (event.Edit client diff) = edit_keeps client diff

@@ -16,3 +16,10 @@ pub mod WaitingLemmas
 pub mod CommitLemmas
 pub mod OwedLemmas
 pub mod ShownLemmas
+pub mod LaterLemmas
+pub mod CommittedLemmas
+pub mod OrderLemmas
+pub mod ToldLemmas
+pub mod TakenLemmas
+pub mod BackLemmas
+pub mod QueueLemmas

@@ -174,7 +174,7 @@ long_append : {X : Type 0} (xs ys : List X) → length (xs ++ ys) ≡ length xs 
 long_append [] ys = omega arith
 long_append (x ∷ xs) ys = let h = long_append xs ys in omega arith
 
-answered_count : (k clock : ℕ) (history : History) → length (answered_above k clock history) ≡ count_by (is_by k) (above clock history)
+pub answered_count : (k clock : ℕ) (history : History) → length (answered_above k clock history) ≡ count_by (is_by k) (above clock history)
 answered_count k clock [] = refl
 answered_count k clock (entry ∷ history) =
     let rest = answered_count k clock history in

@@ -40,7 +40,7 @@ sessions_kept w v long more fewer h = record {
 }
 
 -- a client set, whose current session is what it was or none
-client_kept : (w v : World) (n : ℕ) (c d : Client) → slice_get w.clients n ≡ Some c → v.clients ≡ slice_set w.clients n d → IsLess c d → (m k : ℕ) → IsCurrent v m k → IsCurrent w m k
+pub client_kept : (w v : World) (n : ℕ) (c d : Client) → slice_get w.clients n ≡ Some c → v.clients ≡ slice_set w.clients n d → IsLess c d → (m k : ℕ) → IsCurrent v m k → IsCurrent w m k
 client_kept w v n c d at set less m k on =
     elim (got-set w.clients n m d on.client (sym (ap (λ cs. slice_get cs m) set) ∙ on.made)) [
       | inl same ↦ record {
@@ -51,7 +51,7 @@ client_kept w v n c d at set less m k on =
       | inr before ↦ record { client = on.client; made = before; has = on.has }
     ]
 
-end_less : (reason : EndReason) (c : Client) → IsLess c (after_end reason c)
+pub end_less : (reason : EndReason) (c : Client) → IsLess c (after_end reason c)
 end_less Slow c k is = absurd (cc)
 end_less ClientTooOld c k is = absurd (cc)
 end_less ServerTooOld c k is = absurd (cc)
@@ -80,7 +80,7 @@ pushing_sessions w n c p at less h =
     (λ k channel is there. sessions_kept w _ (long-set w.channels k _ ∙ h.channels) (omega arith) (client_kept w _ n c p.client at refl less) h)
 
 -- a client that joins has no session
-joined : (cs : List Client) (version m : ℕ) (c : Client) (k : ℕ) → slice_get (cs ++ new_client version ∷ []) m ≡ Some c → session_of c.connection ≡ Some k → slice_get cs m ≡ Some c
+pub joined : (cs : List Client) (version m : ℕ) (c : Client) (k : ℕ) → slice_get (cs ++ new_client version ∷ []) m ≡ Some c → session_of c.connection ≡ Some k → slice_get cs m ≡ Some c
 joined cs version m c k is has = elim (got-added cs m (new_client version) c is) [
   | inl same ↦ absurd (let none : None ≡ Some k = sym (ap (λ (x : Client). session_of x.connection) same) ∙ has in cc)
   | inr before ↦ before

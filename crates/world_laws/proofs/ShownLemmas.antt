@@ -18,7 +18,7 @@ use Rattle.world_laws.proofs.EventLemmas.{Acts, rests, works, Keeps, everywhere}
 use Rattle.world_laws.proofs.PushLemmas.{each_set, each_added, next_same, answered as opened, pushing_keeps}
 use Rattle.world_laws.proofs.BarredLemmas.{barred_stand}
 
-oldest_all : (history : History) → oldest (length history) history ≡ history
+pub oldest_all : (history : History) → oldest (length history) history ≡ history
 oldest_all [] = refl
 oldest_all (entry ∷ history) =
     let before : nat_lt (length history) (suc (length history)) ≡ true = grind (arith, nat_tests) in

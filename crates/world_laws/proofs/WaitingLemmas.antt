@@ -101,7 +101,7 @@ other_author k n apart = elim (n == k) as (λ b. (n == k) ≡ b → b ≡ false)
 ] refl
 
 module _ {F : Type 0} (schemas : Schemas F) (lawful : AreLawful schemas) where
-  none_next : (sessions : List Session) (history : History) → AllNamed schemas sessions history → NoneBy (length sessions) history
+  pub none_next : (sessions : List Session) (history : History) → AllNamed schemas sessions history → NoneBy (length sessions) history
   none_next sessions [] h = tt
   none_next sessions (entry ∷ history) h = (
     elim entry.author as (λ o. entry.author ≡ o → is_author (length sessions) o ≡ false) [

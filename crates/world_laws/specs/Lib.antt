@@ -5,3 +5,6 @@ pub mod Channels
 pub mod Presences
 pub mod Requests
 pub mod Pending
+pub mod Told
+pub mod Queues
+pub mod Restoring

@@ -7,7 +7,9 @@
 #![tactic(auto)]
 
 pub mod channels;
+pub mod deliveries;
 pub mod pending;
 pub mod presences;
 pub mod requests;
+pub mod restoring;
 pub mod worlds;
