@@ -1,0 +1,5 @@
+pub mod PlanLemmas
+pub mod SizeLemmas
+pub mod PartLemmas
+pub mod PresenceLemmas
+pub mod EntryLemmas

@@ -1,0 +1,9 @@
+-- Migrations that go both ways work on one record at a time.
+use Rattle.std.proofs.Common.{◌≡◌, true, ◌&&◌, List, [], ◌∷◌, refl}
+use Rattle.migrate_seq.specs.Plans.{is_record, are_of_records, are_both_ways}
+use Rattle.migrate_seq.specs.declared.migration.Migration.{Migration}
+use Rattle.room_model.proofs.ActingLemmas.{both, left, right}
+
+pub both_ways_of_records : (ms : List Migration) → are_both_ways ms ≡ true → are_of_records ms ≡ true
+both_ways_of_records [] is = refl
+both_ways_of_records (m ∷ ms) is = both _ _ (left _ m.has_down (left _ (are_both_ways ms) is)) (both_ways_of_records ms (right (is_record m.scope && m.has_down) _ is))
