@@ -1,0 +1,11 @@
+pub mod FilterLemmas
+pub mod PartLemmas
+pub mod MarkLemmas
+pub mod PruneLemmas
+pub mod RingLemmas
+pub mod LeftLemmas
+pub mod KeepLemmas
+pub mod UsableLemmas
+pub mod ListedLemmas
+pub mod AppendLemmas
+pub mod SinceLemmas
