@@ -1,0 +1,4 @@
+pub mod StashLemmas
+pub mod PartLemmas
+pub mod WorkLemmas
+pub mod ReplicaLemmas

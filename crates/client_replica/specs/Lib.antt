@@ -1,0 +1,5 @@
+pub mod Parts
+pub mod Works
+pub mod Stashes
+pub mod Standing
+pub mod Lending

@@ -1,0 +1,213 @@
+//! The stash: what stood in a document under the ids that edits name.
+ghost use Rattle.std.specs.Prelude.{◌≡◌, ◌≤◌, ◌+◌, ◌||◌, [], ℕ, List, length, IfOk, OnOk, OnErr, is_some};
+ghost use Rattle.std.specs.Option.{option_copied};
+ghost use Rattle.rooms_val.specs.Maps.{AreRising, value_at, with_key, without_key};
+ghost use Rattle.field_ops.specs.View.{maybe_data};
+ghost use Rattle.client_replica.specs.Stashes.{under, written_over, kept, without_all};
+
+use doc_store::DocStore;
+use field_ops::Diff;
+use rooms_val::{Mem, OutOfMemory, Steps, Text, Val};
+use std::alloc::Global;
+use std::collections::BTreeMap;
+use std::marker::Model;
+use std::sync::ledger::Ledger;
+
+/// Records by id, or that there was none. A look-up and a change cost a logarithm of their number. Contracts see the ids,
+/// which rise, each with its record or none.
+#[derive(Drop)]
+pub(crate) struct Stash {
+    tree: BTreeMap<String, Option<Val>>,
+}
+
+impl Model for Stash {
+    ghost use Rattle.rooms_val.specs.Maps.{AreRising};
+    ghost use Rattle.doc_store.specs.Slots.{Slots, coded_slots};
+    ghost use Rattle.doc_store.specs.Tree.{slots_view};
+
+    ghost Value = { Slots };
+
+    ghost coded = { coded_slots };
+
+    ghost view = { λ s. slots_view s.tree.entries };
+
+    ghost invariant = { λ s. AreRising (slots_view s.tree.entries) };
+}
+
+impl Stash {
+    /// The stash that holds no id.
+    pub(crate) fn new(alloc: Global) -> Stash
+        ensures { result ≡ [] }
+    {
+        Stash {
+            tree: BTreeMap::new(alloc),
+        }
+    }
+
+    /// Does nothing: that the ids rise is told by the type.
+    pub(crate) fn tell_rising(&self)
+        ensures { AreRising self.now }
+    {
+        let _ = self.tree.len();
+    }
+
+    // Whether it holds an id.
+    fn has(&self, id: &str) -> bool
+        ensures { result ≡ is_some (value_at self.now id.now) }
+    {
+        match self.tree.get(id) {
+            Some(_) => true,
+            None => false,
+        }
+    }
+
+    // Holds a copy of what stands under an id that it doesn't hold. Where memory is refused nothing changes.
+    fn insert(&mut self, alloc: Global, id: &str, record_: Option<&Val>) -> Mem<()>
+        ensures ok { OnOk result (self.new
+            ≡ with_key self.old id.now (maybe_data (option_copied record_.entry))) }
+        ensures err { OnErr result (self.new ≡ self.old) }
+    {
+        let key = String::from_str(alloc, id)?;
+        let slot = copied(alloc, record_)?;
+        match self.tree.insert(key, slot) {
+            Ok(old) => {
+                drop(old);
+                Ok(())
+            }
+            Err(_) => Err(OutOfMemory),
+        }
+    }
+
+    // Holds an id no more.
+    fn remove(&mut self, id: &str)
+        ensures { self.new ≡ without_key self.old id.now }
+    {
+        drop(self.tree.remove(id));
+    }
+
+    /// Holds what a store has under an id, where it doesn't hold the id yet. Where memory is refused nothing changes.
+    pub(crate) fn keep<D: DocStore>(&mut self, alloc: Global, store: &D, id: &str) -> Mem<()>
+        ensures ok { OnOk result (self.new
+            ≡ kept self.old id.now (value_at (D.records store.now) id.now)) }
+        ensures err { OnErr result (self.new ≡ self.old) }
+    {
+        if self.has(id) {
+            return Ok(());
+        }
+        self.insert(alloc, id, store.get(id))
+    }
+
+    /// Holds what a store has under the ids that a diff names, where it doesn't hold them yet, and answers the ids that it
+    /// holds now and didn't before. Where memory is refused nothing changes.
+    pub(crate) fn keep_all<D: DocStore>(
+        &mut self,
+        alloc: Global,
+        store: &D,
+        diff: &Diff,
+    ) -> Mem<Vec<Text>>
+        ensures base { OnOk result ((id : List ℕ)
+            → under self.new (D.records store.now) id ≡ under self.old (D.records store.now) id) }
+        ensures exact { OnOk result ((id : List ℕ)
+            → is_some (value_at self.new id)
+            ≡ is_some (value_at self.old id) || is_some (value_at diff.now id)) }
+        ensures few { OnOk result (length self.new ≤ length self.old + length diff.now) }
+        ensures rising { OnOk result (AreRising self.new) }
+        ensures fresh { IfOk result (λ fresh. without_all self.new fresh.items ≡ self.old) }
+        ensures err { OnErr result (self.new ≡ self.old) }
+    {
+        let mut fresh = Vec::new(alloc);
+        match self.keep_each(alloc, store, diff, &mut fresh) {
+            Ok(()) => Ok(fresh),
+            Err(_) => {
+                self.forget(&fresh);
+                Err(OutOfMemory)
+            }
+        }
+    }
+
+    // The same, where the ids join a list that says which to forget again.
+    fn keep_each<D: DocStore>(
+        &mut self,
+        alloc: Global,
+        store: &D,
+        diff: &Diff,
+        fresh: &mut Vec<Text>,
+    ) -> Mem<()>
+        ensures base { OnOk result ((id : List ℕ)
+            → under self.new (D.records store.now) id ≡ under self.old (D.records store.now) id) }
+        ensures exact { OnOk result ((id : List ℕ)
+            → is_some (value_at self.new id)
+            ≡ is_some (value_at self.old id) || is_some (value_at diff.now id)) }
+        ensures few { OnOk result (length self.new ≤ length self.old + length diff.now) }
+        ensures rising { OnOk result (AreRising self.new) }
+        ensures fresh { without_all self.new fresh.new.items
+            ≡ without_all self.old fresh.old.items }
+    {
+        self.tell_rising();
+        'ids: for (id, _) in diff.as_slice() {
+            self.keep_fresh(alloc, store, id, fresh)?;
+        }
+        Ok(())
+    }
+
+    // Holds what a store has under one id, and adds the id to the list, where it doesn't hold the id yet.
+    fn keep_fresh<D: DocStore>(
+        &mut self,
+        alloc: Global,
+        store: &D,
+        id: &Text,
+        fresh: &mut Vec<Text>,
+    ) -> Mem<()>
+        ensures ok { OnOk result (self.new
+            ≡ kept self.old id.now (value_at (D.records store.now) id.now)) }
+        ensures fresh { without_all self.new fresh.new.items
+            ≡ without_all self.old fresh.old.items }
+    {
+        self.tell_rising();
+        if self.has(id.as_str()) {
+            return Ok(());
+        }
+        fresh.push(id.copy(alloc)?)?;
+        self.insert(alloc, id.as_str(), store.get(id.as_str()))
+    }
+
+    /// Holds these ids no more. It takes no memory.
+    pub(crate) fn forget(&mut self, ids: &[Text])
+        ensures { self.new ≡ without_all self.old ids.now }
+    {
+        let mut left = ids.len();
+        'ids: while left > 0 {
+            left -= 1;
+            self.remove(ids[left].as_str());
+        }
+    }
+
+    /// Writes what it holds over the records of a store.
+    pub(crate) fn write_back<D: DocStore, L: Ledger>(
+        &self,
+        alloc: Global,
+        store: &mut D,
+        steps: &mut Steps<L>,
+    ) -> Mem<()>
+        ensures ok { OnOk result (D.records store.new
+            ≡ written_over self.now (D.records store.old)) }
+        ensures begun { D.begun store.new ≡ D.begun store.old }
+        ensures rest { D.rest store.new ≡ D.rest store.old }
+        ensures ticks { steps.new ≤ steps.old + length self.now }
+    {
+        for (id, slot) in &self.tree {
+            drop(store.write(alloc, id.as_str(), copied(alloc, slot.as_ref())?, steps)?);
+        }
+        Ok(())
+    }
+}
+
+// An equal record, if there is one.
+fn copied(alloc: Global, record_: Option<&Val>) -> Mem<Option<Val>>
+    ensures { IfOk result (λ copy. maybe_data copy ≡ maybe_data (option_copied record_.entry)) }
+{
+    match record_ {
+        Some(val) => Ok(Some(val.copy(alloc)?)),
+        None => Ok(None),
+    }
+}
