@@ -1,0 +1,12 @@
+use Rattle.std.proofs.Common.{ap, subst, ◌∙◌}
+use Rattle.room_model.specs.Schemas.{records_with}
+use Rattle.room_model.specs.Replicas.{after_cut}
+use Rattle.client_replica.specs.Standing.{document_of}
+use Rattle.sync_client.specs.Standing.{Stands}
+use Rattle.sync_client.proofs.ClientLemmas.{end_is}
+use Rattle.sync_client.proofs.client.SyncClient.ended.Goals as goal
+
+pub returns-clause-stands : goal.returns-clause-stands
+returns-clause-stands g c = λ held stands.
+    subst (λ client. Stands g.D.DocStore.records (record { base = records_with (document_of c.args.self.now.replica) held.base; client = client }) c.leave.new.self)
+    (ap (λ refused. record (after_cut held.client) { refused = refused }) (c.refusal.ensures held.client stands.refused) ∙ end_is c.args.reason held.client) (c.leave.ensures.stands held stands)
