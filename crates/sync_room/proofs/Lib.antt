@@ -1,0 +1,10 @@
+pub mod ListLemmas
+pub mod FirstLemmas
+pub mod TableLemmas
+pub mod SlowLemmas
+pub mod RoomLemmas
+pub mod HandleLemmas
+pub mod SendLemmas
+pub mod PushLemmas
+pub mod ChosenLemmas
+pub mod SentLemmas

@@ -1,0 +1,4 @@
+pub mod Scopes
+pub mod Sending
+pub mod Sessions
+pub mod Standing
