@@ -1,9 +1,9 @@
 -- What goes by the types of a schema goes by the whiteboard's, where the schema has these.
-use Rattle.std.proofs.Common.{◌≡◌, [], Some, None, Result, Ok, Err, sym, ap, subst, ◌∙◌}
+use Rattle.std.proofs.Common.{◌≡◌, ℕ, List, [], Option, Some, None, Result, Ok, Err, sym, ap, subst, ◌∙◌}
 use Rattle.std.specs.Result.{result_ok}
-use Rattle.rooms_val.specs.Data.{Pairs}
-use Rattle.field_ops.specs.RecordOps.{RecordOps}
-use Rattle.doc_model.specs.Documents.{step}
+use Rattle.rooms_val.specs.Data.{Data, Pairs}
+use Rattle.field_ops.specs.RecordOps.{RecordOpTree, RecordOps}
+use Rattle.doc_model.specs.Documents.{left_on, step}
 use Rattle.schema_core.specs.Admits as schema
 use Rattle.schema_core.specs.Tree.{Types, SchemaTree}
 use Rattle.side_effects.specs.Completed.{completed}
@@ -19,6 +19,10 @@ of_types types = record { types = types; sequences = [] }
 pub step_same : (s : SchemaTree) (document : Pairs) (diff : RecordOps) → HasTypes s → step (λ id d. schema.is_admitted s id d) document diff ≡ step is_admitted document diff
 unfolding is_admitted whiteboard
 step_same s document diff is = ap (λ types. step (λ id d. schema.is_admitted (of_types types) id d) document diff) is
+
+pub left_same : (s : SchemaTree) (id : List ℕ) (c : RecordOpTree) (r : Option Data) → HasTypes s → left_on (λ id d. schema.is_admitted s id d) id c r ≡ left_on is_admitted id c r
+unfolding is_admitted whiteboard
+left_same s id c r is = ap (λ types. left_on (λ id d. schema.is_admitted (of_types types) id d) id c r) is
 
 pub completed_same : (s : SchemaTree) (document : Pairs) (wanted : RecordOps) → HasTypes s → completed s document wanted ≡ completed whiteboard document wanted
 unfolding whiteboard

@@ -9,7 +9,7 @@ ghost use Rattle.rooms_val.specs.View.{data_of};
 ghost use Rattle.rooms.specs.Clients.{is_document, is_admitted};
 
 use crate::rules::Rules;
-use field_ops::{Diff, RecordOp, apply_record};
+use field_ops::{Diff, RecordOp};
 use rooms_val::{Fields, Mem, Text};
 use std::alloc::Global;
 
@@ -36,27 +36,16 @@ fn stepped(
     ensures done { OnOk result (document.new ≡ stepped is_admitted document.old id.now (change_of op.now)) }
     ensures told { IfOk result (λ did. did ≡ acts is_admitted document.old id.now (change_of op.now)) }
 {
-    match op {
-        RecordOp::Put(r) => {
-            drop(document.put(id.copy(alloc)?, r.copy(alloc)?)?);
+    match rules.step_record(alloc, id.as_str(), document.get(id.as_str()), op)? {
+        Some(Some(r)) => {
+            drop(document.put(id.copy(alloc)?, r)?);
             Ok(true)
         }
-        RecordOp::Remove => {
-            if document.get(id.as_str()).is_some() {
-                drop(document.take(id.as_str()));
-                return Ok(true);
-            }
-            Ok(false)
+        Some(None) => {
+            drop(document.take(id.as_str()));
+            Ok(true)
         }
-        RecordOp::Patch(_) => {
-            if let Some(r) = apply_record(alloc, document.get(id.as_str()), op)? {
-                if rules.admits(id.as_str(), &r) {
-                    drop(document.put(id.copy(alloc)?, r)?);
-                    return Ok(true);
-                }
-            }
-            Ok(false)
-        }
+        None => Ok(false),
     }
 }
 

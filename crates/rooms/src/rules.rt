@@ -1,12 +1,14 @@
 //! What the schema of recordings decides: which records are admitted, which ids are the document's, and what edits do.
-ghost use Rattle.std.specs.Prelude.{◌≡◌, ◌↔◌, [], IfOk, IsTrue, OnOk};
+ghost use Rattle.std.specs.Prelude.{◌≡◌, ◌↔◌, [], IfOk, IsTrue, OnOk, option_map, option_copied};
 ghost use Rattle.rooms_val.specs.View.{data_of};
-ghost use Rattle.doc_model.specs.Documents.{step};
+ghost use Rattle.field_ops.specs.View.{maybe_data};
+ghost use Rattle.field_ops.specs.ViewRecordOps.{change_of};
+ghost use Rattle.doc_model.specs.Documents.{left_on, step};
 ghost use Rattle.schema_core.specs.SchemaOf.{schema_tree};
 ghost use Rattle.rooms.specs.Rules.{HasTypes, is_admitted, is_document, completes};
 
-use doc_store::{MapDoc, TxnFault, apply};
-use field_ops::Diff;
+use doc_store::{MapDoc, TxnFault, apply, step_record};
+use field_ops::{Diff, RecordOp};
 use rooms_val::{Mem, OutOfMemory, Steps, Val};
 use schema_core::Schema;
 use side_effects::{EditFault, complete};
@@ -53,6 +55,20 @@ impl Rules {
         ensures { result ≡ is_admitted id.now (data_of record_.now) }
     {
         self.schema.admits(id, record_).is_ok()
+    }
+
+    /// What an operation leaves under an id, a record or none. `None` where it is passed over.
+    #[tactic(auto, unfolding(crate::specs::Rules::is_admitted))]
+    pub(crate) fn step_record(
+        &self,
+        alloc: Global,
+        id: &str,
+        before: Option<&Val>,
+        op: &RecordOp,
+    ) -> Mem<Option<Option<Val>>>
+        ensures { IfOk result (λ left. option_map maybe_data left ≡ left_on is_admitted id.now (change_of op.now) (maybe_data (option_copied before.entry))) }
+    {
+        step_record(alloc, &self.schema, id, before, op)
     }
 
     /// Whether an id is one of the document's.
