@@ -1,5 +1,5 @@
-//! Tests of the calls of the store layer, as tables: diffs that are applied to a store, transactions, and edits that are
-//! completed or refused. The crate has no code of its own.
+//! Tests of the calls of the store layer, as tables: diffs that are applied to a store, transactions, edits that are
+//! completed or refused, and plain queries. The crate has no code of its own.
 #![tactic(auto)]
 
 #[cfg(test)]
@@ -8,5 +8,7 @@ mod changes;
 mod edits;
 #[cfg(test)]
 mod lists;
+#[cfg(test)]
+mod shapes;
 #[cfg(test)]
 mod stores;
