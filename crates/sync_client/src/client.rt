@@ -318,6 +318,13 @@ impl<D: DocStore> SyncClient<D> {
         self.replica.others()
     }
 
+    /// The schema that says what is admitted.
+    pub fn schema(&self) -> &Schema
+        ensures { result.now ≡ self.now.replica.schema }
+    {
+        self.replica.schema()
+    }
+
     /// The store, which has what the client shows: the base's document with the pending edits replayed.
     pub fn store(&self) -> &D
         ensures store { result.now ≡ self.now.replica.store }
