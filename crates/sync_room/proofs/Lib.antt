@@ -1,5 +1,6 @@
 pub mod ListLemmas
 pub mod FirstLemmas
+pub mod FindLemmas
 pub mod TableLemmas
 pub mod SlowLemmas
 pub mod RoomLemmas

@@ -11,6 +11,7 @@
 mod drain;
 mod ending;
 pub mod enter;
+mod find;
 mod handle;
 pub mod room;
 pub mod session;
