@@ -1,0 +1,5 @@
+pub mod ByIdLemmas
+pub mod TypeLemmas
+pub mod VersionLemmas
+pub mod PlanLemmas
+pub mod ClientLemmas
