@@ -1,0 +1,141 @@
+-- What a peer stands for, said by the schema that it has.
+use Rattle.std.proofs.Common.{◌≡◌, ℕ, List, Bool, true, false, ◌&&◌, cond, Option, None, Some, option_map, Result, Ok, Err, refl, sym, ap, subst, ◌∙◌}
+use Rattle.std.specs.Prelude.{unwrap_or, nat_lt}
+use Rattle.std.specs.Option.{option_map_or}
+use Rattle.std.specs.Result.{IsErr, IsErrAnd}
+use Rattle.rooms_val.specs.Answers.{Gives}
+use Rattle.rooms_val.specs.Data.{Data, Pairs}
+use Rattle.rooms_val.specs.Maps.{AreRising}
+use Rattle.field_ops.specs.RecordOps.{RecordOps}
+use Rattle.doc_model.specs.Documents.{replay}
+use Rattle.migrate_seq.specs.Plans.{newest_versions}
+use Rattle.schema_core.specs.SchemaOf.{schema_tree}
+use Rattle.schema_core.specs.declared.schema.Schema.{Schema}
+use Rattle.tl_tables.specs.Tables.{IsVersion, IsSchemaAt}
+use Rattle.sync_msgs.specs.declared.end_reason.EndReason.{EndReason}
+use Rattle.sync_msgs.specs.declared.end_reason.EndReason.TheVariants.{ClientTooOld, ServerTooOld, InvalidRecord, RoomFull, Slow}
+use Rattle.sync_msgs.specs.declared.server_message.ServerMessage.{ServerMessage}
+use Rattle.sync_msgs.specs.declared.server_message.ServerMessage.TheVariants as message
+use Rattle.room_model.specs.Schemas.{Schemas, ClientSchema, records_with}
+use Rattle.room_model.specs.Replicas as model
+use Rattle.room_model.specs.Replicas.{Client, Work, with_work, is_open, first_unsent, pending_diffs, push_one, push_none, schema_of, after_end}
+use Rattle.room_model.specs.declared.limits.TheConstants.{MOST_PUSHES}
+use Rattle.client_replica.specs.Standing.{admits_of, document_of, presence_of}
+use Rattle.side_effects.specs.Completed.{completed}
+use Rattle.side_effects.specs.declared.fault.EditFault.{EditFault}
+use Rattle.side_effects.specs.declared.fault.EditFault.TheVariants as edit
+use Rattle.sync_client.specs.Calls.{Held, pushed, after_message}
+use Rattle.sync_client.specs.Presences.{presence_fault, with_presence}
+use Rattle.sync_client.specs.Standing as client
+use Rattle.sync_client.specs.declared.fault.PresenceFault.{PresenceFault}
+use Rattle.sync_client.specs.declared.fault.PresenceFault.TheVariants as presence
+use Rattle.sync_client.proofs.ClientLemmas.{shows}
+use Rattle.peer_schemas.specs.Clients.{client_at, edit_fault_of, IsDecidedBy}
+use Rattle.peer_schemas.proofs.ClientLemmas.{decided_by}
+use Rattle.peer_schemas.proofs.TypeLemmas.{same_document, same_presence}
+use Rattle.sync_peer.specs.Calls.{shown, others_shown, completion, refusal, done_unless, as_edit}
+use Rattle.sync_peer.specs.Standing.{records_of, Stands}
+use Rattle.sync_peer.specs.declared.peer.Peer.{Peer}
+
+module _ (schemas : Schemas EditFault) (held : Held) (peer : Peer) (stands : Stands schemas held peer) where
+  abbrev decides : IsDecidedBy (schema_tree peer.client.replica.schema) (client_at held.client.version)
+  decides = decided_by held.client.version (schema_tree peer.client.replica.schema) stands.known stands.version
+
+  schema_is : schema_of schemas held.client ≡ client_at held.client.version
+  schema_is = ap (λ (x : Schemas EditFault). x.client held.client.version) stands.tables.are
+
+  -- what is decided for the client is what its schema decides
+  pub admits_are : (schema_of schemas held.client).admits ≡ admits_of peer.client.replica
+  admits_are = ap (λ (x : ClientSchema EditFault). x.admits) schema_is ∙ decides.admits
+
+  pub versions_are : (schema_of schemas held.client).versions ≡ newest_versions (schema_tree peer.client.replica.schema).sequences
+  versions_are = ap (λ (x : ClientSchema EditFault). x.versions) schema_is ∙ decides.versions
+
+  pub document_is : schemas.is_document ≡ document_of peer.client.replica
+  document_is =
+      ap (λ (x : Schemas EditFault). x.is_document) stands.tables.are
+      ∙ same_document stands.tables.room (schema_tree peer.client.replica.schema) stands.tables.version held.client.version stands.tables.at.types stands.version.types
+
+  pub presence_is : schemas.is_presence ≡ presence_of peer.client.replica
+  presence_is =
+      ap (λ (x : Schemas EditFault). x.is_presence) stands.tables.are
+      ∙ same_presence stands.tables.room (schema_tree peer.client.replica.schema) stands.tables.version held.client.version stands.tables.at.types stands.version.types
+
+  -- its store has what it shows
+  pub shown_is : shown schemas held ≡ records_of peer.client.replica.store
+  shown_is =
+      (λ i. replay (admits_are i) (records_with (document_is i) held.base) (pending_diffs held.client))
+      ∙ sym (shows records_of held peer.client stands.client)
+
+  pub others_are : others_shown schemas held ≡ records_with (presence_of peer.client.replica) held.base
+  others_are = ap (λ test. records_with test held.base) presence_is
+
+  -- an edit is completed by its schema
+  pub completion_is : (wanted : RecordOps) → AreRising wanted
+      → completion schemas held wanted ≡ completed (schema_tree peer.client.replica.schema) (records_of peer.client.replica.store) wanted
+  completion_is wanted rising =
+      ap (λ (x : ClientSchema EditFault). x.complete (shown schemas held) wanted) schema_is
+      ∙ ap (λ m. (client_at held.client.version).complete m wanted) shown_is
+      ∙ decides.completes (records_of peer.client.replica.store) wanted rising
+
+  pub completed_at : (wanted : RecordOps) → AreRising wanted → (schema : Schema) (store : Pairs × List Pairs)
+      → schema ≡ peer.client.replica.schema → store ≡ peer.client.replica.store → completion schemas held wanted ≡ completed (schema_tree schema) (records_of store) wanted
+  completed_at wanted rising schema store schema_same store_same =
+      completion_is wanted rising ∙ sym (λ i. completed (schema_tree (schema_same i)) (records_of (store_same i)) wanted)
+
+  -- and a presence is refused by it
+  pub refusal_is : (d : Data) → refusal schemas held d ≡ option_map edit_fault_of (presence_fault (schema_tree peer.client.replica.schema) d)
+  refusal_is d = ap (λ (x : ClientSchema EditFault). x.presence_fault d) schema_is ∙ decides.refuses d
+
+  -- a peer stands for a client of the same version if its client does, and its schema stays
+  pub stands_on : (after : Held) (other : Peer) → after.client.version ≡ held.client.version → other.client.replica.schema ≡ peer.client.replica.schema
+      → client.Stands records_of after other.client → Stands schemas after other
+  stands_on after other same schema is = record {
+    tables = stands.tables;
+    known = subst IsVersion (sym same) stands.known;
+    version = subst (λ n. IsSchemaAt n (schema_tree other.client.replica.schema)) (sym same)
+        (subst (λ (s : Schema). IsSchemaAt held.client.version (schema_tree s)) (sym schema) stands.version);
+    client = is;
+  }
+
+-- no call changes a client's version
+pub push_version : (c : Client) → (pushed c).client.version ≡ c.version
+push_version c = elim (is_open c.connection && nat_lt c.pushes MOST_PUSHES) as (λ b. (unwrap_or (cond b (option_map (push_one c) (first_unsent c.pending)) None) (push_none c)).client.version ≡ c.version) [
+  | true ↦ elim (first_unsent c.pending) as (λ o. (unwrap_or (option_map (push_one c) o) (push_none c)).client.version ≡ c.version) [ None ↦ refl | Some work ↦ refl ]
+  | false ↦ refl
+]
+
+pub presence_version : (d : Data) (c : Client) → (with_presence d c).version ≡ c.version
+presence_version d c =
+    let set : Client = record c { presence = Some d } in
+    elim (is_open c.connection) as (λ b. (cond b (with_work (model.presence d) set) set).version ≡ c.version) [ true ↦ refl | false ↦ refl ]
+
+pub message_version : (admits : List ℕ → Data → Bool) (is_doc : List ℕ → Bool) (held : Held) (said : ServerMessage) → (after_message admits is_doc held said).client.version ≡ held.client.version
+message_version admits is_doc held (message.Connect hydration request protocol versions diff clock readonly) = refl
+message_version admits is_doc held (message.Data events) = refl
+message_version admits is_doc held message.Pong = refl
+
+pub end_version : (reason : EndReason) (c : Client) → (after_end reason c).version ≡ c.version
+end_version ClientTooOld c = refl
+end_version ServerTooOld c = refl
+end_version InvalidRecord c = refl
+end_version RoomFull c = refl
+end_version Slow c = refl
+
+-- a presence is refused as an edit is, by the fault of the same name
+pub answers : (result : Result (Unit {0}) PresenceFault) (fault : Option PresenceFault)
+    → Gives presence.OutOfMemory (λ done. done) result (option_map_or (λ e. Err e) fault (Ok tt))
+    → Gives edit.OutOfMemory (λ done. done) (as_edit result) (done_unless (option_map edit_fault_of fault))
+answers (Ok done) None given = refl
+answers (Ok done) (Some e) given = absurd (let no : Err e ≡ Ok done = given in cc)
+answers (Err e) None given = λ other. absurd (let no : Ok tt ≡ Err e = given (λ is. other (ap edit_fault_of is)) in cc)
+answers (Err e) (Some f) given = λ other.
+    let same : Err f ≡ Err e = given (λ is. other (ap edit_fault_of is)) in
+    let is : f ≡ e = cc in
+    ap (λ x. Err (edit_fault_of x)) is
+
+-- an edit is refused as completion refuses it
+pub refused : (result : Result (Unit {0}) EditFault) (answer : Result (Unit {0}) EditFault) (fault : EditFault) → IsErr result × IsErrAnd result (λ e. e ≡ fault)
+    → (¬ (fault ≡ edit.OutOfMemory) → answer ≡ Err fault) → Gives edit.OutOfMemory (λ done. done) result answer
+refused (Ok done) answer fault is given = absurd (let no : false ≡ true = is.0 in cc)
+refused (Err e) answer fault is given = λ other. given (λ same. other (is.1 ∙ same)) ∙ ap Err (sym is.1)

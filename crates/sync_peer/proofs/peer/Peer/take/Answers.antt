@@ -1,0 +1,25 @@
+use Rattle.std.proofs.Common.{◌≤◌, ◌+◌, ◌*◌, sym, subst}
+use Rattle.room_model.specs.Replicas.{pending_diffs, schema_of}
+use Rattle.client_replica.specs.Standing.{document_of}
+use Rattle.client_replica.specs.Works.{operations}
+use Rattle.sync_client.specs.Calls.{after_message, message_steps}
+use Rattle.sync_client.specs.Standing as client
+use Rattle.sync_client.proofs.ClientLemmas.{on_ok}
+use Rattle.sync_peer.specs.Standing.{records_of}
+use Rattle.sync_peer.proofs.PeerLemmas.{stands_on, admits_are, document_is, message_version}
+use Rattle.sync_peer.proofs.peer.Peer.take.Goals as goal
+
+pub returns-clause-ok : goal.returns-clause-ok
+returns-clause-ok g c = on_ok c.take.result (λ told schemas held stands.
+    let old = c.args.self.now in
+    let said = c.args.message.now in
+    let admits = (schema_of schemas held.client).admits in
+    stands_on schemas held old stands (after_message admits schemas.is_document held said) (record { client = c.take.new.self }) (message_version admits schemas.is_document held said) c.take.ensures.schema
+    (subst (λ test. client.Stands records_of (after_message admits test held said) c.take.new.self) (sym (document_is schemas held old stands))
+    (subst (λ admitted. client.Stands records_of (after_message admitted (document_of old.client.replica) held said) c.take.new.self) (sym (admits_are schemas held old stands))
+    (told held stands.client)))) c.take.ensures.ok
+
+pub returns-clause-ticks : goal.returns-clause-ticks
+returns-clause-ticks g c = λ schemas held stands.
+    subst (λ test. c.take.new.steps ≤ c.args.steps.now + (2 * operations (pending_diffs held.client) + message_steps test held.base c.args.message.now))
+    (sym (document_is schemas held c.args.self.now stands)) (c.take.ensures.ticks held stands.client)

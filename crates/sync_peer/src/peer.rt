@@ -1,0 +1,258 @@
+//! A peer: a client that completes its edits.
+ghost use Rattle.std.specs.Prelude.{◌≡◌, ◌+◌, ◌*◌, ◌≤◌, ◌↔◌, [], length, option_to_list, IfOk, OnOk, OnErr, IsErrOf, Some, None, Ok, Err};
+ghost use Rattle.std.specs.Option.{option_map_or};
+ghost use Rattle.std.specs.Borrow.{sem};
+ghost use Rattle.rooms_val.specs.Answers.{Gives};
+ghost use Rattle.rooms_val.specs.Maps.{AreRising, value_at, added};
+ghost use Rattle.rooms_val.specs.View.{data_of};
+ghost use Rattle.room_model.specs.Schemas.{Schemas, records_with};
+ghost use Rattle.room_model.specs.Replicas.{schema_of, pending_diffs, new_client, after_cut, after_end};
+ghost use Rattle.room_model.specs.Worlds.{map_val};
+ghost use Rattle.room_model.specs.declared.fault.ConnectFault.TheVariants as connect_fault;
+ghost use Rattle.client_replica.specs.Works.{operations};
+ghost use Rattle.sync_client.specs.Calls.{Held, connect_answer, asking, pushed, after_message, message_steps};
+ghost use Rattle.sync_client.specs.Faults.{take_fault};
+ghost use Rattle.sync_client.specs.Presences.{with_presence};
+ghost use Rattle.sync_client.specs.declared.fault.TakeFault.TheVariants as take_fault_is;
+ghost use Rattle.side_effects.specs.declared.fault.EditFault.{EditFault};
+ghost use Rattle.side_effects.specs.declared.fault.EditFault.TheVariants as edit_fault;
+ghost use Rattle.tl_tables.specs.Tables.{IsVersion};
+ghost use Rattle.tl_tables.specs.declared.tables.TableFault.TheVariants as table_fault;
+ghost use Rattle.peer_schemas.specs.Clients.{AreOfTables};
+ghost use Rattle.sync_peer.specs.Calls.{shown, others_shown, completion, refusal, done_by, done_unless, as_edit};
+
+use doc_store::{DocStore, MapDoc};
+use field_ops::Diff;
+use rooms_val::{Fields, Mem, Steps, Text, Val};
+use side_effects::{EditFault, complete};
+use std::alloc::Global;
+use std::sync::ledger::Ledger;
+use sync_client::{ConnectFault, PresenceFault, SyncClient, TakeFault};
+use sync_msgs::{ClientMessage, EndReason, ServerMessage};
+use tl_tables::{TableFault, schema_at};
+
+/// A client over a plain store, with the schema of a version of the tables. Contracts say for which of `room_model`'s
+/// clients, with which base, it stands.
+#[derive(Drop)]
+pub struct Peer {
+    // The client. Its schema is one of the tables', and its edits were completed.
+    client: SyncClient<MapDoc>,
+}
+
+impl Peer {
+    ghost use Rattle.sync_peer.specs.Standing.{Stands, Edits};
+    ghost use Rattle.sync_peer.specs.Lending.{LendsStore};
+
+    /// A peer of a version that was never connected and has no record.
+    ///
+    /// # Errors
+    /// `NoSuchVersion` exactly for another version than 1 to 3, or `OutOfMemory`.
+    pub fn new(alloc: Global, version: u32) -> Result<Peer, TableFault>
+        ensures unknown { IsErrOf result table_fault.NoSuchVersion ↔ (¬ (IsVersion version)) }
+        ensures stands { IfOk result (λ peer. (schemas : Schemas EditFault) → AreOfTables schemas
+            → Stands schemas (record { base = []; client = new_client version }) peer) }
+    {
+        let schema = schema_at(alloc, version)?;
+        Ok(Peer {
+            client: SyncClient::new(alloc, schema, MapDoc::new(alloc)),
+        })
+    }
+
+    /// Does an edit as it is completed against what the peer shows, and it is pending. It costs what the diff names, at
+    /// most a step for each operation.
+    ///
+    /// # Errors
+    /// The first rule of completion that refuses the edit decides; `OutOfMemory` may come in place of any answer. Then the
+    /// peer is as before.
+    pub fn edit<L: Ledger>(
+        &mut self,
+        alloc: Global,
+        wanted: &Diff,
+        steps: &mut Steps<L>,
+    ) -> Result<(), EditFault>
+        ensures fault { (schemas : Schemas EditFault) (held : Held) → Stands schemas held self.old
+            → Gives edit_fault.OutOfMemory
+            (λ done. done) result (done_by (completion schemas held wanted.now)) }
+        ensures ok { OnOk result ((schemas : Schemas EditFault) (held : Held)
+            → Stands schemas held self.old
+            → Edits schemas held (completion schemas held wanted.now) self.new) }
+        ensures err { OnErr result ((schemas : Schemas EditFault) (held : Held)
+            → Stands schemas held self.old → Stands schemas held self.new) }
+    {
+        tell_rising(wanted);
+        let diff = complete(alloc, self.client.schema(), self.client.store(), wanted)?;
+        self.client.edit(alloc, diff, steps)?;
+        Ok(())
+    }
+
+    /// Sets the record by which others are to see the peer. It is pending if the peer is connected, and again each time it
+    /// is connected anew.
+    ///
+    /// # Errors
+    /// `WrongScope` exactly where the record's id, which is given, isn't one of a presence; else `Invalid` exactly where the
+    /// record isn't admitted under it, with the cause; or `OutOfMemory`. Then the peer is as before.
+    pub fn presence(&mut self, alloc: Global, record_: Val) -> Result<(), PresenceFault>
+        ensures fault { (schemas : Schemas EditFault) (held : Held) → Stands schemas held self.old
+            → Gives edit_fault.OutOfMemory
+            (λ done. done) (as_edit result) (done_unless (refusal schemas held (data_of record_))) }
+        ensures ok { OnOk result ((schemas : Schemas EditFault) (held : Held)
+            → Stands schemas held self.old → Stands schemas (record held {
+              client = with_presence (data_of record_) held.client;
+            }) self.new) }
+        ensures err { OnErr result ((schemas : Schemas EditFault) (held : Held)
+            → Stands schemas held self.old → Stands schemas held self.new) }
+    {
+        self.client.presence(alloc, record_)
+    }
+
+    /// Asks to be connected by a request, whose number the room's answer will name. What is answered is to be sent.
+    ///
+    /// # Errors
+    /// `AlreadyOpen` exactly where it has asked before or is connected; `Refused` exactly where the room ended a session of
+    /// it for another reason than `Slow`, which is given; or `OutOfMemory`. Then the peer is as before.
+    pub fn connect(&mut self, alloc: Global, request: u64) -> Result<ClientMessage, ConnectFault>
+        ensures answer { (schemas : Schemas EditFault) (held : Held) → Stands schemas held self.old
+            → Gives connect_fault.OutOfMemory (λ said. said) result (connect_answer
+            (schema_of schemas held.client).versions request held.client) }
+        ensures ok { OnOk result ((schemas : Schemas EditFault) (held : Held)
+            → Stands schemas held self.old
+            → Stands schemas (record held { client = asking request held.client }) self.new) }
+        ensures err { OnErr result (self.new ≡ self.old) }
+    {
+        self.client.connect(alloc, request)
+    }
+
+    /// The push of the first pending work that wasn't sent on this connection. `None` exactly where it isn't connected, all
+    /// was sent, or its pushes have reached 2^53 - 1. It costs a copy of the work. Where memory is refused the peer is as
+    /// before.
+    pub fn next_push(&mut self, alloc: Global) -> Mem<Option<ClientMessage>>
+        ensures push { IfOk result (λ push. (schemas : Schemas EditFault) (held : Held)
+            → Stands schemas held self.old
+            → option_to_list push ≡ (pushed held.client).messages) }
+        ensures ok { OnOk result ((schemas : Schemas EditFault) (held : Held)
+            → Stands schemas held self.old
+            → Stands schemas (record held { client = (pushed held.client).client }) self.new) }
+        ensures err { OnErr result (self.new ≡ self.old) }
+    {
+        self.client.next_push(alloc)
+    }
+
+    /// Takes a message of the room. An answer to its request connects it: its base is brought to the room's clock, the
+    /// pending edits are replayed, and all is to be pushed, its own presence last. Data changes its base event by event, and
+    /// each result ends the first pending work. It costs what is pending and what the message brings, for `WipeAll` also
+    /// the base's document, and never the document otherwise.
+    ///
+    /// # Errors
+    /// The first event at fault decides, and of an event the first cause in the order of `TakeFault`; `OutOfMemory` may
+    /// come in place of success. Then the peer is as before.
+    pub fn take<L: Ledger>(
+        &mut self,
+        alloc: Global,
+        message: &ServerMessage,
+        steps: &mut Steps<L>,
+    ) -> Result<(), TakeFault>
+        ensures fault { (schemas : Schemas EditFault) (held : Held) → Stands schemas held self.old
+            → Gives take_fault_is.OutOfMemory (λ done. done) result (option_map_or
+            (λ fault. Err fault) (take_fault held.client message.now) (Ok tt)) }
+        ensures ok { OnOk result ((schemas : Schemas EditFault) (held : Held)
+            → Stands schemas held self.old
+            → Stands schemas (after_message (schema_of schemas held.client).admits
+            schemas.is_document held message.now) self.new) }
+        ensures err { OnErr result ((schemas : Schemas EditFault) (held : Held)
+            → Stands schemas held self.old → Stands schemas held self.new) }
+        ensures ticks { (schemas : Schemas EditFault) (held : Held) → Stands schemas held self.old
+            → steps.new ≤ steps.old + (2 * operations (pending_diffs held.client) + message_steps
+            schemas.is_document held.base message.now) }
+    {
+        self.client.take(alloc, message, steps)
+    }
+
+    /// Learns that its connection is lost: its edits stay pending and are to be pushed again, its presence isn't pending
+    /// any more, and those of others are gone. It takes no memory.
+    pub fn lost(&mut self, alloc: Global)
+        ensures stands { (schemas : Schemas EditFault) (held : Held) → Stands schemas held self.old
+            → Stands schemas (record {
+              base = records_with schemas.is_document held.base;
+              client = after_cut held.client;
+            }) self.new }
+    {
+        self.client.lost(alloc);
+    }
+
+    /// Learns that the room ended its session: as `lost`, and after each reason but `Slow` it can't connect any more. It
+    /// takes no memory.
+    pub fn ended(&mut self, alloc: Global, reason: EndReason)
+        ensures stands { (schemas : Schemas EditFault) (held : Held) → Stands schemas held self.old
+            → Stands schemas (record {
+              base = records_with schemas.is_document held.base;
+              client = after_end reason held.client;
+            }) self.new }
+    {
+        self.client.ended(alloc, reason);
+    }
+
+    /// The room's clock that it has reached, -1 before the first connection.
+    pub fn reached(&self) -> i64
+        ensures { (schemas : Schemas EditFault) (held : Held) → Stands schemas held self.now
+            → result ≡ held.client.reached }
+    {
+        self.client.reached()
+    }
+
+    /// How many works are pending: edits that the room hasn't answered, and presences that were set on this connection.
+    pub fn owed(&self) -> usize
+        ensures { (schemas : Schemas EditFault) (held : Held) → Stands schemas held self.now
+            → result ≡ length held.client.pending }
+    {
+        self.client.owed()
+    }
+
+    /// What the peer shows, as a map by id: the document of its base with its pending edits replayed. It costs a copy of
+    /// all records.
+    pub fn document(&self, alloc: Global) -> Mem<Val>
+        ensures { IfOk result (λ val. (schemas : Schemas EditFault) (held : Held)
+            → Stands schemas held self.now → val ≡ map_val (shown schemas held)) }
+    {
+        let store = self.client.store();
+        let mut fields = Fields::new(alloc);
+        'ids: for id in store.ids(alloc)? {
+            copy_record(alloc, store, id, &mut fields)?;
+        }
+        Ok(Val::Map(fields))
+    }
+
+    /// The presence of others, as a map by id. It costs a copy of it.
+    pub fn others(&self, alloc: Global) -> Mem<Val>
+        ensures { IfOk result (λ val. (schemas : Schemas EditFault) (held : Held)
+            → Stands schemas held self.now → val ≡ map_val (others_shown schemas held)) }
+    {
+        Ok(Val::Map(self.client.others().copy(alloc)?))
+    }
+
+    /// The store. Afterwards its records are to be as before, and no transaction is to be open.
+    pub fn store_mut(&mut self) -> &mut MapDoc
+        ensures* writes_back { sem 𝓛 (LendsStore self.entry result) }
+        ensures value { result.now ≡ self.old.client.replica.store }
+    {
+        self.client.store_mut()
+    }
+}
+
+// Adds a copy of the record of an id, if there is one.
+fn copy_record(alloc: Global, store: &MapDoc, id: Text, fields: &mut Fields) -> Mem<()>
+    ensures sound { AreRising store.now.0 }
+    ensures copied { OnOk result (fields.new ≡ added fields.old id (value_at store.now.0 id)) }
+{
+    if let Some(record) = store.get(id.as_str()) {
+        let record = record.copy(alloc)?;
+        drop(fields.put(id, record)?);
+    }
+    Ok(())
+}
+
+// That the ids of a diff rise is told by its length.
+fn tell_rising(diff: &Diff)
+    ensures { AreRising diff.now }
+{
+    let _ = diff.len();
+}
