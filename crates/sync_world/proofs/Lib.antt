@@ -1,0 +1,17 @@
+pub mod ListLemmas
+pub mod WorldLemmas
+pub mod KeepingLemmas
+pub mod OutcomeLemmas
+pub mod TakeLemmas
+pub mod PushingLemmas
+pub mod PartLemmas
+pub mod RoomPeerLemmas
+pub mod EventLemmas
+pub mod ShowLemmas
+pub mod SendingLemmas
+pub mod EditLemmas
+pub mod PresenceLemmas
+pub mod DeliverLemmas
+pub mod ConnectLemmas
+pub mod BeginLemmas
+pub mod StepLemmas

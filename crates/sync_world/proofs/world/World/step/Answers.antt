@@ -1,0 +1,14 @@
+use Rattle.std.proofs.Common.{◌∙◌, ap, sym, subst}
+use Rattle.room_model.specs.Worlds.{after_event}
+use Rattle.sync_world.specs.Answers.{StepsTo, is_spent}
+use Rattle.sync_world.proofs.StepLemmas.{steps_to}
+use Rattle.sync_world.proofs.world.World.step.Goals as goal
+
+pub returns-in-Ok-clause-step : goal.returns-in-Ok-clause-step
+returns-in-Ok-clause-step g c = λ schemas world stands.
+    let outcome = after_event schemas c.args.trace world c.args.event in
+    subst (λ b. StepsTo schemas world outcome c.in-Ok.answer (record { live = c.happen.new.self; spent = b })) (sym c.is_spent-self.ensures)
+    (steps_to schemas world outcome c.in-Ok.answer c.happen.new.self (c.in-Ok.ensures schemas world stands.keeps))
+
+pub returns-in-Ok-clause-spends : goal.returns-in-Ok-clause-spends
+returns-in-Ok-clause-spends g c = λ is. c.is_spent-self.ensures ∙ ap is_spent is

@@ -1,0 +1,116 @@
+//! A world, which plays a recording event by event.
+ghost use Rattle.std.specs.Prelude.{◌≡◌, ◌<◌, ℕ, Bool, true, Some, IfOk, Err, slice_get, vec_len};
+ghost use Rattle.room_model.specs.Schemas.{Schemas};
+ghost use Rattle.room_model.specs.Replicas.{Client};
+ghost use Rattle.room_model.specs.Worlds as model;
+ghost use Rattle.room_model.specs.Worlds.{new_world, after_event};
+ghost use Rattle.side_effects.specs.declared.fault.EditFault.{EditFault};
+ghost use Rattle.tl_tables.specs.Tables.{IsVersion};
+ghost use Rattle.sync_peer.specs.Standing as peer_of;
+ghost use Rattle.sync_world.specs.Playing.{IsPlayed};
+ghost use Rattle.sync_world.specs.Holding.{held_of};
+ghost use Rattle.sync_world.specs.Standing.{Stands, IsAtVersion};
+ghost use Rattle.sync_world.specs.Answers.{StepsTo, is_spent};
+
+use crate::live::{Answer, Live};
+use room_model::fault::StepFault;
+use room_model::limits::LAST_CLOCK;
+use room_model::{Event, OutLine};
+use rooms_val::{Mem, OutOfMemory, Steps};
+use side_effects::EditFault;
+use std::alloc::Global;
+use std::sync::ledger::Ledger;
+use sync_peer::Peer;
+use sync_room::Room;
+use tl_tables::{TableFault, schema_at};
+use world_queues::Queues;
+
+/// A room, the clients over it, and what is in flight between them.
+#[derive(Drop)]
+pub struct World {
+    // The parts. Nothing is said of them once memory ran out.
+    live: Live,
+    // Whether memory ran out.
+    spent: bool,
+}
+
+impl World {
+    /// A world whose room has the schema of a version, 1 to 3; nobody entered the room, and there
+    /// is no client. It costs the schema.
+    pub fn new(alloc: Global, version: u32) -> Mem<World>
+        requires { IsVersion version }
+        ensures { IfOk result (λ world. (schemas : Schemas EditFault)
+            × (IsAtVersion version schemas) × Stands schemas new_world world) }
+    {
+        match schema_at(alloc, version) {
+            Ok(schema) => Ok(World {
+                live: Live {
+                    room: Room::new(alloc, schema, LAST_CLOCK as i64)?,
+                    queues: Queues::new(alloc),
+                    clients: Vec::new(alloc),
+                },
+                spent: false,
+            }),
+            Err(TableFault::NoSuchVersion) => unreachable!(),
+            Err(TableFault::OutOfMemory) => Err(OutOfMemory),
+        }
+    }
+
+    /// Lets an event happen, and answers the lines that it prints; with `trace` also those of the
+    /// messages that it moves. Events of marks are refused before a world, and a client's version
+    /// is 1 to 3. It costs what the room and the client take for it, however many events came
+    /// before; `Show` and `End` cost the document.
+    ///
+    /// # Errors
+    ///
+    /// `NoSuchClient`, `NoSuchSession`, `NothingThere`, `Edit`, `Connect` and `Limit` exactly if
+    /// the definitions refuse the event so; then the world is as before. After `OutOfMemory` every
+    /// further step answers it.
+    pub fn step<L: Ledger>(
+        &mut self,
+        alloc: Global,
+        event: Event,
+        trace: bool,
+        steps: &mut Steps<L>,
+    ) -> Result<Vec<OutLine>, StepFault<EditFault>>
+        requires { IsPlayed event }
+        ensures step { (schemas : Schemas EditFault) (world : model.World)
+            → Stands schemas world self.old
+            → StepsTo schemas world (after_event schemas trace world event) result self.new }
+        ensures spent { self.old.spent ≡ true
+            → (result ≡ Err StepFault.OutOfMemory) × (self.new.spent ≡ true) }
+        ensures spends { result ≡ Err StepFault.OutOfMemory → self.new.spent ≡ true }
+    {
+        if self.spent {
+            return Err(StepFault::OutOfMemory);
+        }
+        match self.live.happen(alloc, event, trace, steps) {
+            Ok(answer) => {
+                self.spent = is_spent(&answer);
+                answer
+            }
+            Err(_) => {
+                self.spent = true;
+                Err(StepFault::OutOfMemory)
+            }
+        }
+    }
+
+    /// The client of a number, which was made. It stands for the client of the definitions with the
+    /// base that this has of the room.
+    pub fn peer(&self, client: u64) -> &Peer
+        requires { client < vec_len self.now.live.clients }
+        ensures { (schemas : Schemas EditFault) (world : model.World) (one : Client)
+            → Stands schemas world self.now → slice_get world.clients client ≡ Some one
+            → peer_of.Stands schemas (held_of schemas world.room.history one) result.now }
+    {
+        &self.live.clients[client as usize].peer
+    }
+}
+
+// Whether an answer says that memory ran out.
+fn is_spent(answer: &Answer) -> bool
+    ensures { result ≡ is_spent answer.now }
+{
+    matches!(answer, Err(StepFault::OutOfMemory))
+}
