@@ -1,0 +1,11 @@
+pub mod RefusalLemmas
+pub mod PartLemmas
+pub mod PushLemmas
+pub mod PlaceLemmas
+pub mod TextLemmas
+pub mod EventLemmas
+pub mod KeyLemmas
+pub mod ClientLemmas
+pub mod ServerLemmas
+pub mod OneEachLemmas
+pub mod ReadsLemmas

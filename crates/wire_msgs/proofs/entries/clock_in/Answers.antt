@@ -1,0 +1,5 @@
+use Rattle.wire_msgs.proofs.RefusalLemmas.{any_err}
+use Rattle.wire_msgs.proofs.entries.clock_in.Goals as goal
+
+pub returns-in_err-clock-clause-only : goal.returns-in_err-clock-clause-only
+returns-in_err-clock-clause-only c = any_err c.from_residual.result (λ z clock is. c.in_err-clock.ensures.only z is)

@@ -1,0 +1,6 @@
+use Rattle.rooms_val.specs.Data.{boolean}
+use Rattle.wire_msgs.proofs.RefusalLemmas.{any_err}
+use Rattle.wire_msgs.proofs.entries.truth_in.Goals as goal
+
+pub returns-in_err-truth-clause-only : goal.returns-in_err-truth-clause-only
+returns-in_err-truth-clause-only c = any_err c.from_residual.result (λ b is. c.in_err-truth.ensures.only (boolean b) is)

@@ -1,0 +1,9 @@
+pub mod Faults
+pub mod Types
+pub mod Keys
+pub mod Events
+pub mod Messages
+pub mod Rows
+pub mod Readings
+pub mod Printing
+pub mod Laws
