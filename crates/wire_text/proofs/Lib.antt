@@ -1,0 +1,4 @@
+mod CutLemmas
+mod PieceLemmas
+mod FeedingLemmas
+mod StreamLemmas

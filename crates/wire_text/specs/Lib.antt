@@ -1,0 +1,4 @@
+pub mod Cutting
+pub mod Feeding
+pub mod Gathering
+pub mod Streams
