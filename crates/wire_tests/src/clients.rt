@@ -1,0 +1,136 @@
+//! The messages of clients: what each is read from and printed as, and what is refused.
+use crate::refusals::{nested_push, refused};
+use case_tables::{cells, rows};
+use rooms_val::Val;
+use std::alloc::Global;
+use std::test::Fail;
+use sync_msgs::ClientMessage;
+use wire_msgs::{Message, read_client};
+
+/// A message of each form, as it is printed.
+const MESSAGES: &str = r#"
+{"connectRequestId":"7","lastServerClock":-1,"protocolVersion":1,"schema":{"schemaVersion":2,"sequences":{"rooms.base":1}},"type":"connect"}
+{"connectRequestId":"","lastServerClock":9007199254740991,"protocolVersion":-3,"schema":{"schemaVersion":2,"sequences":{}},"type":"connect"}
+{"connectRequestId":"é\n","lastServerClock":-9007199254740991,"protocolVersion":0,"schema":{"schemaVersion":2,"sequences":{"":0,"a/b":9007199254740991}},"type":"connect"}
+{"clientClock":0,"type":"push"}
+{"clientClock":9007199254740991,"diff":{},"type":"push"}
+{"clientClock":1,"diff":{"no id":["remove"],"page:a":["put",null],"page:b":["patch",{"x":["append",[1],4294967295],"y":["delete"]}]},"type":"push"}
+{"clientClock":2,"presence":["put",{"id":"instance_presence:a"}],"type":"push"}
+{"clientClock":3,"presence":["patch",{"x":["put",[]],"y":["patch",{}]}],"type":"push"}
+{"clientClock":4,"diff":{"page:a":["put",{}]},"presence":["put",1],"type":"push"}
+{"type":"ping"}
+"#;
+
+/// A message as it is printed, before another text that stands for it.
+const WRITTEN_OTHERWISE: &str = r#"
+{"type":"ping"} |  { "type" : "push", "type":"p\u0069ng" }
+{"clientClock":5,"diff":{},"presence":["put",null],"type":"push"} | {"type":"push","presence":["put",null],"diff":{},"clientClock":5}
+{"connectRequestId":"7","lastServerClock":2,"protocolVersion":1,"schema":{"schemaVersion":2,"sequences":{}},"type":"connect"} | {"schema":{"sequences":{},"schemaVersion":2},"type":"connect","protocolVersion":1,"lastServerClock":2,"connectRequestId":"7"}
+"#;
+
+/// Texts that are no message of a client, each after the fault that is answered. Where several
+/// causes apply the first is answered.
+const REFUSED: &str = r#"
+BadJson | {"type":"ping"
+BadJson | {"type":"ping"} {"type":"ping"}
+NotWhole | {"clientClock":1.5,"type":"fly"}
+OutOfRange | {"clientClock":9007199254740992,"type":"push"}
+UnknownType | []
+UnknownType | null
+UnknownType | "ping"
+UnknownType | {}
+UnknownType | {"type":null}
+UnknownType | {"type":["ping"]}
+UnknownType | {"type":"Ping"}
+UnknownType | {"type":"pong"}
+UnknownType | {"type":"data","data":[]}
+UnknownType | {"clientClock":-1,"type":"pushes"}
+UnknownType | {"clientClock":1,"diff":{}}
+MissingField | {"type":"connect"}
+MissingField | {"lastServerClock":0,"protocolVersion":1,"schema":{"schemaVersion":2,"sequences":{}},"type":"connect"}
+MissingField | {"connectRequestId":"7","protocolVersion":1,"schema":{"schemaVersion":2,"sequences":{}},"type":"connect"}
+MissingField | {"connectRequestId":"7","lastServerClock":0,"schema":{"schemaVersion":2,"sequences":{}},"type":"connect"}
+MissingField | {"connectRequestId":"7","lastServerClock":0,"protocolVersion":1,"type":"connect"}
+MissingField | {"connectRequestId":7,"lastServerClock":0,"protocolVersion":1,"type":"connect","x":1}
+MissingField | {"type":"push"}
+MissingField | {"clientclock":1,"type":"push"}
+MissingField | {"diff":[],"presence":["remove"],"type":"push"}
+MissingField | {"diff":{},"readonly":true,"type":"push"}
+ExtraField | {"connectRequestId":7,"diff":{},"lastServerClock":0,"protocolVersion":1,"schema":{"schemaVersion":2,"sequences":{}},"type":"connect"}
+ExtraField | {"clientClock":-1,"serverClock":1,"type":"push"}
+ExtraField | {"clientClock":1,"diff":{},"presences":["put",1],"type":"push"}
+ExtraField | {"":null,"clientClock":1,"type":"push"}
+ExtraField | {"clientClock":1,"type":"ping"}
+WrongKind | {"connectRequestId":7,"lastServerClock":0,"protocolVersion":1,"schema":{"schemaVersion":2,"sequences":{}},"type":"connect"}
+WrongKind | {"connectRequestId":"7","lastServerClock":"0","protocolVersion":1,"schema":{"schemaVersion":2,"sequences":{}},"type":"connect"}
+WrongKind | {"connectRequestId":"7","lastServerClock":0,"protocolVersion":null,"schema":{"schemaVersion":2,"sequences":{}},"type":"connect"}
+WrongKind | {"connectRequestId":"7","lastServerClock":0,"protocolVersion":1,"schema":{},"type":"connect"}
+WrongKind | {"connectRequestId":"7","lastServerClock":0,"protocolVersion":1,"schema":{"schemaVersion":1,"sequences":{}},"type":"connect"}
+WrongKind | {"connectRequestId":"7","lastServerClock":0,"protocolVersion":1,"schema":{"schemaVersion":2,"sequences":{"a":-1}},"type":"connect"}
+WrongKind | {"clientClock":-1,"type":"push"}
+WrongKind | {"clientClock":true,"diff":{},"type":"push"}
+WrongKind | {"clientClock":1,"diff":null,"type":"push"}
+WrongKind | {"clientClock":1,"diff":{"page:a":["delete"]},"type":"push"}
+WrongKind | {"clientClock":1,"diff":{"page:a":["put"]},"type":"push"}
+WrongKind | {"clientClock":1,"diff":{"page:a":["patch",{"x":["append",[],4294967296]}]},"type":"push"}
+WrongKind | {"clientClock":1,"presence":["remove"],"type":"push"}
+WrongKind | {"clientClock":1,"presence":["append",[],0],"type":"push"}
+WrongKind | {"clientClock":1,"presence":{},"type":"push"}
+WrongKind | {"clientClock":1,"presence":null,"type":"push"}
+"#;
+
+/// The text of a message.
+fn printed(alloc: Global, message: &ClientMessage) -> Result<String, Fail> {
+    Ok(String::from_utf8(message.print(alloc)?)?)
+}
+
+/// The name of what a text is refused for.
+fn fault(alloc: Global, text: &[u8]) -> &'static str {
+    match read_client(alloc, text) {
+        Ok(_) => "none",
+        Err(fault) => refused(fault),
+    }
+}
+
+#[test]
+fn prints_each_message_as_the_text_that_was_read(rt: HostRuntime) -> Result<(), Fail> {
+    let alloc = rt.alloc();
+    for text in &rows(alloc, MESSAGES)? {
+        let message = read_client(alloc, text.as_bytes())?;
+        assert_eq!(rt; printed(alloc, &message)?.as_str(), *text);
+        let val: Val = message.val(alloc)?;
+        assert_eq!(rt; String::from_utf8(val.print(alloc)?)?.as_str(), *text);
+    }
+    Ok(())
+}
+
+#[test]
+fn reads_fields_in_any_order_and_among_blanks(rt: HostRuntime) -> Result<(), Fail> {
+    let alloc = rt.alloc();
+    for row in &rows(alloc, WRITTEN_OTHERWISE)? {
+        let [text, written, _, _] = cells(row);
+        let message = read_client(alloc, written.as_bytes())?;
+        assert_eq!(rt; printed(alloc, &message)?.as_str(), text);
+    }
+    Ok(())
+}
+
+#[test]
+fn refuses_each_text_that_is_no_message(rt: HostRuntime) -> Result<(), Fail> {
+    let alloc = rt.alloc();
+    for row in &rows(alloc, REFUSED)? {
+        let [name, text, _, _] = cells(row);
+        assert_eq!(rt; fault(alloc, text.as_bytes()), name, "{text}");
+    }
+    Ok(())
+}
+
+#[test]
+fn refuses_what_nests_deeper_than_56(rt: HostRuntime) -> Result<(), Fail> {
+    let alloc = rt.alloc();
+    assert_eq!(rt; fault(alloc, &nested_push(alloc, 56)?), "none");
+    assert_eq!(rt; fault(alloc, &nested_push(alloc, 57)?), "TooDeep");
+    assert_eq!(rt; fault(alloc, &nested_push(alloc, 64)?), "TooDeep");
+    assert_eq!(rt; fault(alloc, &nested_push(alloc, 65)?), "TooDeep");
+    Ok(())
+}
