@@ -1,0 +1,13 @@
+//! Tests of clients, as scripts of calls over a store that counts its writes. The crate has no code of its own.
+#![tactic(auto)]
+
+#[cfg(test)]
+mod calls;
+#[cfg(test)]
+mod client;
+#[cfg(test)]
+mod messages;
+#[cfg(test)]
+mod scripts;
+#[cfg(test)]
+mod writes;

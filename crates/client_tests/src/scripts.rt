@@ -1,0 +1,259 @@
+//! Scripts of calls: in each row a call, what it answers, and what the client shows afterwards, where that is new.
+use crate::calls::{call, shown};
+use crate::client::{Client, made};
+use case_tables::{cells, rows};
+use std::alloc::Global;
+use std::process::Abort;
+use std::test::Fail;
+
+/// Does the calls of a script over a new client, and asserts what they answer and what the client shows.
+fn plays(rt: &impl Abort, alloc: Global, script: &str) -> Result<(), Fail> {
+    let mut client = made(alloc)?;
+    let mut now = shown(alloc, &client)?;
+    for row in &rows(alloc, script)? {
+        now = play(rt, alloc, &mut client, row, now.as_str())?;
+    }
+    Ok(())
+}
+
+/// Does the call of a row, and gives what the client shows then: without a third cell, the same as before.
+fn play(
+    rt: &impl Abort,
+    alloc: Global,
+    client: &mut Client,
+    row: &str,
+    before: &str,
+) -> Result<String, Fail> {
+    let [line, wanted, after, ..] = cells(row);
+    let told = call(alloc, client, line)?;
+    assert_eq!(rt; told.as_str(), wanted, "at {line}");
+    let now = shown(alloc, client)?;
+    if after.is_empty() {
+        assert_eq!(rt; now.as_str(), before, "after {line}");
+    } else {
+        assert_eq!(rt; now.as_str(), after, "after {line}");
+    }
+    Ok(now)
+}
+
+/// Each refusal, and a good message after it.
+const REFUSALS: &str = r#"
+# Without a connection nothing is taken.
+take pong | NotOpen
+take data patch 1 {} | NotOpen
+take answer 4 wipe_all 3 {} | NotOpen
+edit {"note:a":["put",{"id":"note:a","typeName":"note","x":1}]} | {"note:a":["remove"]} | -1 owes 1: note:a=1
+push | none
+connect 4 | connect 4 -1
+# While it asks, the answer to its request is, and nothing else.
+connect 5 | AlreadyOpen
+take pong | NotOpen
+take data patch 4 {} | NotOpen
+push | none
+take answer 5 wipe_all 3 {} | WrongRequest
+take answer 4 wipe_all 3 {"note:b":["put",{"id":"note:b","typeName":"note","x":2}]} | taken | 3 owes 1: note:a=1 note:b=2
+# On a connection no answer is.
+connect 4 | AlreadyOpen
+take answer 4 wipe_all 3 {} | NotOpen
+take pong | taken
+# A result ends a push.
+take data commit 4 1 | NoPending(1)
+push | push 1 {"note:a":["put",{"id":"note:a","typeName":"note","x":1}]}
+push | none
+take data commit 4 9 | WrongPending(1, 9)
+take data patch 2 {} | ClockBack(3, 2)
+take data patch 3 {"note:b":["patch",{"x":["put",3]}]} | taken | 3 owes 1: note:a=1 note:b=3
+take data commit 2 1 | ClockBack(3, 2)
+take data commit 4 1 | taken | 4 owes 0: note:a=1 note:b=3
+take data commit 5 1 | NoPending(1)
+take data commit 5 2 | NoPending(2)
+take data patch 5 {"note:b":["remove"]} | taken | 5 owes 0: note:a=1
+"#;
+
+#[test]
+fn refuses_and_goes_on(rt: HostRuntime) -> Result<(), Fail> {
+    plays(&rt, rt.alloc(), REFUSALS)
+}
+
+/// The first event at fault decides, and the held clock moves with each event.
+const ORDER: &str = r#"
+edit {"note:a":["put",{"id":"note:a","typeName":"note","x":1}]} | {"note:a":["remove"]} | -1 owes 1: note:a=1
+edit {"note:b":["put",{"id":"note:b","typeName":"note","x":2}]} | {"note:b":["remove"]} | -1 owes 2: note:a=1 note:b=2
+edit {"note:c":["put",{"id":"note:c","typeName":"note","x":3}]} | {"note:c":["remove"]} | -1 owes 3: note:a=1 note:b=2 note:c=3
+connect 4 | connect 4 -1
+take answer 4 wipe_all 3 {} | taken | 3 owes 3: note:a=1 note:b=2 note:c=3
+push | push 1 {"note:a":["put",{"id":"note:a","typeName":"note","x":1}]}
+push | push 2 {"note:b":["put",{"id":"note:b","typeName":"note","x":2}]}
+# The held clock is that of the event before.
+take data patch 5 {}; patch 4 {} | ClockBack(5, 4)
+take data commit 5 1; commit 4 2 | ClockBack(5, 4)
+take data patch 4 {"note:d":["put",{"id":"note:d","typeName":"note","x":4}]}; patch 5 {"note:d":["put",{"id":"note:d","typeName":"note","x":5}]}; commit 4 1 | ClockBack(5, 4)
+# The first event at fault.
+take data patch 2 {}; commit 4 9 | ClockBack(3, 2)
+take data commit 4 9; patch 2 {} | WrongPending(1, 9)
+take data commit 4 1; patch 3 {}; commit 5 9 | ClockBack(4, 3)
+take data commit 4 1; commit 5 9; patch 2 {} | WrongPending(2, 9)
+take data commit 4 1; commit 5 1 | WrongPending(2, 1)
+take data commit 4 1; commit 5 2; commit 6 3; patch 2 {} | NoPending(3)
+# Of one event the first cause.
+take data commit 2 9 | WrongPending(1, 9)
+take data commit 4 1; commit 5 2; commit 2 3 | NoPending(3)
+# Nothing of a refused message was done.
+take data commit 4 1; patch 4 {"note:d":["put",{"id":"note:d","typeName":"note","x":4}]}; discard 5 2 | taken | 5 owes 1: note:a=1 note:c=3 note:d=4
+take data commit 6 3 | NoPending(3)
+push | push 3 {"note:c":["put",{"id":"note:c","typeName":"note","x":3}]}
+take data commit 6 3 | taken | 6 owes 0: note:a=1 note:c=3 note:d=4
+"#;
+
+#[test]
+fn the_first_event_at_fault_decides(rt: HostRuntime) -> Result<(), Fail> {
+    plays(&rt, rt.alloc(), ORDER)
+}
+
+/// By which reason a client may not connect again.
+const ENDS: &str = r#"
+connect 1 | connect 1 -1
+ended INVALID_RECORD | done
+connect 2 | Refused(InvalidRecord)
+edit {"note:a":["put",{"id":"note:a","typeName":"note","x":1}]} | {"note:a":["remove"]} | -1 owes 1: note:a=1
+connect 2 | Refused(InvalidRecord)
+new | done | -1 owes 0:
+connect 1 | connect 1 -1
+ended CLIENT_TOO_OLD | done
+connect 2 | Refused(ClientTooOld)
+new | done
+connect 1 | connect 1 -1
+ended SERVER_TOO_OLD | done
+connect 2 | Refused(ServerTooOld)
+new | done
+connect 1 | connect 1 -1
+ended ROOM_FULL | done
+connect 2 | Refused(RoomFull)
+# Nothing is refused to one that was slow.
+new | done
+connect 1 | connect 1 -1
+take answer 1 wipe_all 3 {"note:a":["put",{"id":"note:a","typeName":"note","x":1}]} | taken | 3 owes 0: note:a=1
+ended SLOW | done
+take pong | NotOpen
+connect 2 | connect 2 3
+take answer 2 wipe_all 9 {"note:b":["put",{"id":"note:b","typeName":"note","x":2}]} | taken | 9 owes 0: note:b=2
+"#;
+
+#[test]
+fn is_refused_for_good_but_for_slow(rt: HostRuntime) -> Result<(), Fail> {
+    plays(&rt, rt.alloc(), ENDS)
+}
+
+/// What stays where the connection is lost.
+const LOSSES: &str = r#"
+edit {"note:a":["put",{"id":"note:a","typeName":"note","x":1}]} | {"note:a":["remove"]} | -1 owes 1: note:a=1
+# A presence is pending on a connection alone.
+presence {"id":"pointer:me","typeName":"pointer","x":1} | set
+connect 4 | connect 4 -1
+lost | done
+connect 5 | connect 5 -1
+take answer 4 wipe_all 3 {} | WrongRequest
+take answer 5 wipe_all 3 {"pointer:b":["put",{"id":"pointer:b","typeName":"pointer","x":2}]} | taken | 3 owes 2: note:a=1 pointer:b=2
+push | push 1 {"note:a":["put",{"id":"note:a","typeName":"note","x":1}]}
+push | push 2 ["put",{"id":"pointer:me","typeName":"pointer","x":1}]
+edit {"note:b":["put",{"id":"note:b","typeName":"note","x":2}]} | {"note:b":["remove"]} | 3 owes 3: note:a=1 note:b=2 pointer:b=2
+presence {"id":"pointer:me","typeName":"pointer","x":5} | set | 3 owes 4: note:a=1 note:b=2 pointer:b=2
+# The edits stay, no presence does, of nobody.
+lost | done | 3 owes 2: note:a=1 note:b=2
+push | none
+take data commit 4 1 | NotOpen
+connect 6 | connect 6 3
+take answer 6 wipe_presence 3 {"pointer:b":["put",{"id":"pointer:b","typeName":"pointer","x":3}]} | taken | 3 owes 3: note:a=1 note:b=2 pointer:b=3
+# All is pushed again, its own presence last, and the numbers go on.
+push | push 3 {"note:a":["put",{"id":"note:a","typeName":"note","x":1}]}
+take data commit 4 1 | WrongPending(3, 1)
+push | push 4 {"note:b":["put",{"id":"note:b","typeName":"note","x":2}]}
+push | push 5 ["put",{"id":"pointer:me","typeName":"pointer","x":5}]
+push | none
+take data commit 4 3; commit 5 4; commit 6 5 | taken | 6 owes 0: note:a=1 note:b=2 pointer:b=3
+# The same where the room ends the session.
+edit {"note:c":["put",{"id":"note:c","typeName":"note","x":3}]} | {"note:c":["remove"]} | 6 owes 1: note:a=1 note:b=2 note:c=3 pointer:b=3
+presence {"id":"pointer:me","typeName":"pointer","x":6} | set | 6 owes 2: note:a=1 note:b=2 note:c=3 pointer:b=3
+ended SLOW | done | 6 owes 1: note:a=1 note:b=2 note:c=3
+"#;
+
+#[test]
+fn keeps_edits_and_drops_presences(rt: HostRuntime) -> Result<(), Fail> {
+    plays(&rt, rt.alloc(), LOSSES)
+}
+
+/// What the room says under pending edits.
+const REBASES: &str = r#"
+connect 4 | connect 4 -1
+take answer 4 wipe_all 3 {"note:a":["put",{"id":"note:a","typeName":"note","x":1}],"note:b":["put",{"id":"note:b","typeName":"note","x":2}]} | taken | 3 owes 0: note:a=1 note:b=2
+edit {"note:a":["patch",{"x":["put",5]}]} | {"note:a":["patch",{"x":["put",1]}]} | 3 owes 1: note:a=5 note:b=2
+take data patch 4 {"note:a":["patch",{"x":["put",7]}]} | taken | 4 owes 1: note:a=5 note:b=2
+push | push 1 {"note:a":["patch",{"x":["put",5]}]}
+take data discard 5 1 | taken | 5 owes 0: note:a=7 note:b=2
+edit {"note:b":["patch",{"x":["put",9]}]} | {"note:b":["patch",{"x":["put",2]}]} | 5 owes 1: note:a=7 note:b=9
+edit {"note:b":["patch",{"x":["put",8]}]} | {"note:b":["patch",{"x":["put",9]}]} | 5 owes 2: note:a=7 note:b=8
+push | push 2 {"note:b":["patch",{"x":["put",9]}]}
+push | push 3 {"note:b":["patch",{"x":["put",8]}]}
+take data rebase 6 2 {"note:b":["patch",{"x":["put",3]}]} | taken | 6 owes 1: note:a=7 note:b=8
+take data patch 7 {"note:b":["remove"]} | taken | 7 owes 1: note:a=7
+take data rebase 8 3 {} | taken | 8 owes 0: note:a=7
+edit {"note:a":["remove"]} | {"note:a":["put",{"id":"note:a","typeName":"note","x":7}]} | 8 owes 1:
+take data patch 9 {"note:a":["patch",{"x":["put",6]}],"note:c":["put",{"id":"note:c","typeName":"note","x":1}]} | taken | 9 owes 1: note:c=1
+push | push 4 {"note:a":["remove"]}
+take data discard 10 4 | taken | 10 owes 0: note:a=6 note:c=1
+# What isn't admitted is passed over, and pending.
+edit {"note:a":["patch",{"x":["put",10]}],"note:c":["patch",{"x":["put",2]}]} | {"note:c":["patch",{"x":["put",1]}]} | 10 owes 1: note:a=6 note:c=2
+push | push 5 {"note:a":["patch",{"x":["put",10]}],"note:c":["patch",{"x":["put",2]}]}
+take data commit 11 5 | taken | 11 owes 0: note:a=6 note:c=2
+# Others come and go.
+take data patch 12 {"note:a":["patch",{"x":["put",4]}],"pointer:b":["put",{"id":"pointer:b","typeName":"pointer","x":2}]} | taken | 12 owes 0: note:a=4 note:c=2 pointer:b=2
+take data patch 13 {"pointer:b":["patch",{"x":["put",3]}]}; patch 14 {"pointer:d":["put",{"id":"pointer:d","typeName":"pointer","x":1}]} | taken | 14 owes 0: note:a=4 note:c=2 pointer:b=3 pointer:d=1
+take data patch 15 {"pointer:b":["remove"]} | taken | 15 owes 0: note:a=4 note:c=2 pointer:d=1
+"#;
+
+#[test]
+fn keeps_pending_edits_over_what_the_room_says(rt: HostRuntime) -> Result<(), Fail> {
+    plays(&rt, rt.alloc(), REBASES)
+}
+
+/// What an answer keeps of the base.
+const SNAPSHOTS: &str = r#"
+connect 1 | connect 1 -1
+take answer 1 wipe_all 3 {"note:a":["put",{"id":"note:a","typeName":"note","x":1}],"note:b":["put",{"id":"note:b","typeName":"note","x":2}],"pointer:d":["put",{"id":"pointer:d","typeName":"pointer","x":4}]} | taken | 3 owes 0: note:a=1 note:b=2 pointer:d=4
+edit {"note:b":["patch",{"x":["put",7]}],"note:c":["put",{"id":"note:c","typeName":"note","x":3}]} | {"note:b":["patch",{"x":["put",2]}],"note:c":["remove"]} | 3 owes 1: note:a=1 note:b=7 note:c=3 pointer:d=4
+lost | done | 3 owes 1: note:a=1 note:b=7 note:c=3
+connect 2 | connect 2 3
+take answer 2 wipe_presence 5 {"note:a":["patch",{"x":["put",6]}]} | taken | 5 owes 1: note:a=6 note:b=7 note:c=3
+lost | done
+connect 3 | connect 3 5
+# The edit has nothing to patch.
+take answer 3 wipe_all 9 {"note:d":["put",{"id":"note:d","typeName":"note","x":4}],"pointer:d":["put",{"id":"pointer:d","typeName":"pointer","x":5}]} | taken | 9 owes 1: note:c=3 note:d=4 pointer:d=5
+push | push 1 {"note:b":["patch",{"x":["put",7]}],"note:c":["put",{"id":"note:c","typeName":"note","x":3}]}
+take data discard 10 1 | taken | 10 owes 0: note:d=4 pointer:d=5
+"#;
+
+#[test]
+fn keeps_what_an_answer_keeps(rt: HostRuntime) -> Result<(), Fail> {
+    plays(&rt, rt.alloc(), SNAPSHOTS)
+}
+
+/// Which records can be a presence.
+const PRESENCES: &str = r#"
+presence {"id":"note:a","typeName":"note","x":1} | WrongScope
+presence {"x":1} | WrongScope
+presence {"id":"cursor:a"} | WrongScope
+presence {"id":"pointer:a","typeName":"pointer","x":10} | Invalid
+presence {"id":"pointer:a"} | Invalid
+connect 4 | connect 4 -1
+take answer 4 wipe_all 0 {} | taken | 0 owes 0:
+push | none
+presence {"id":"pointer:a","typeName":"pointer","x":10} | Invalid
+presence {"id":"pointer:a","typeName":"pointer","x":1} | set | 0 owes 1:
+push | push 1 ["put",{"id":"pointer:a","typeName":"pointer","x":1}]
+take data commit 1 1 | taken | 1 owes 0:
+"#;
+
+#[test]
+fn takes_presences_of_their_ids(rt: HostRuntime) -> Result<(), Fail> {
+    plays(&rt, rt.alloc(), PRESENCES)
+}
