@@ -1,0 +1,145 @@
+//! The playing of scripts.
+ghost use Rattle.std.specs.Prelude.{◌≡◌, ◌<◌, true};
+ghost use Rattle.sync_world.specs.Playing.{IsPlayed};
+
+use crate::faults::fault_text;
+use crate::lines::lines_of;
+use board_tables::expanded;
+use case_tables::{cells, rows};
+use rec_format::{print_out, read_header, read_line};
+use room_model::{Event, OutLine};
+use rooms_val::Steps;
+use std::alloc::Global;
+use std::marker::Brand;
+use std::sync::ledger::{Blank, Ledger};
+use std::test::Fail;
+use sync_world::World;
+
+/// Plays scripts, one after the other, in the new world of a header. `None` if each answer is the one that stands there, else
+/// the first step with another answer, and both.
+///
+/// # Errors
+/// A header that is none, a line that is no event or one of marks, and where memory is refused.
+pub fn first_difference(
+    alloc: Global,
+    header: &str,
+    scripts: &[&str],
+) -> Result<Option<String>, Fail> {
+    let header = read_header(alloc, header.as_bytes())?;
+    let mut world = World::new(alloc, header.version)?;
+    for script in scripts {
+        if let Some(difference) = difference_in(alloc, &mut world, script)? {
+            return Ok(Some(difference));
+        }
+    }
+    Ok(None)
+}
+
+// The first difference that playing a script in a world shows.
+fn difference_in(alloc: Global, world: &mut World, script: &str) -> Result<Option<String>, Fail> {
+    for row in &rows(alloc, script)? {
+        let [step, wanted, ..] = cells(row);
+        if let Some(difference) = difference_at(alloc, world, step, wanted)? {
+            return Ok(Some(difference));
+        }
+    }
+    Ok(None)
+}
+
+// How what a world answers to a step differs from what is wanted.
+fn difference_at(
+    alloc: Global,
+    world: &mut World,
+    step: &str,
+    wanted: &str,
+) -> Result<Option<String>, Fail> {
+    let found = answer(alloc, world, step)?;
+    let wanted = expanded(alloc, wanted)?;
+    if found.as_str() == wanted.as_str() {
+        return Ok(None);
+    }
+    Ok(Some(format!(in alloc; "at {step}: {found}, and not {wanted}")?))
+}
+
+// What a world answers to the lines of a step.
+fn answer(alloc: Global, world: &mut World, step: &str) -> Result<String, Fail> {
+    let lines = lines_of(alloc, step)?;
+    let mut out = String::new(alloc);
+    for line in lines.as_str().lines() {
+        let text = line_answer(alloc, world, line)?;
+        add(&mut out, text.as_str())?;
+    }
+    Ok(out)
+}
+
+// Adds a text, if there is any, after what is there.
+fn add(out: &mut String, text: &str) -> Result<(), Fail> {
+    if !out.is_empty() && !text.is_empty() {
+        out.push_str(" and ")?;
+    }
+    out.push_str(text)?;
+    Ok(())
+}
+
+// What a world answers to a line. The steps are counted for nobody.
+fn line_answer(alloc: Global, world: &mut World, line: &str) -> Result<String, Fail> {
+    let event = read_line(alloc, line.as_bytes())?;
+    if !is_played(&event) {
+        return Err(Fail::from("no event that a world plays"));
+    }
+    stepped::<Brand>(Blank::new(1), alloc, world, event)
+}
+
+// Whether a world plays an event.
+fn is_played(event: &Event) -> bool
+    ensures { result ≡ true → IsPlayed event.now }
+{
+    match event {
+        Event::Client { version } => 1 <= *version && *version <= 3,
+        Event::Connect { .. } => true,
+        Event::Edit { .. } => true,
+        Event::Presence { .. } => true,
+        Event::Mark { .. } => false,
+        Event::Undo { .. } => false,
+        Event::Redo { .. } => false,
+        Event::Bail { .. } => false,
+        Event::Handle { .. } => true,
+        Event::Send { .. } => true,
+        Event::Deliver { .. } => true,
+        Event::Cut { .. } => true,
+        Event::Lose { .. } => true,
+        Event::Show { .. } => true,
+        Event::End => true,
+    }
+}
+
+fn stepped<L: Ledger>(
+    blank: Blank,
+    alloc: Global,
+    world: &mut World,
+    event: Event,
+) -> Result<String, Fail>
+    requires name { blank.name ≡ L.name }
+    requires parts { blank.parts ≡ L.parts }
+    requires some { 0 < blank.parts }
+    requires played { IsPlayed event }
+{
+    let mut steps = Steps::<L>::new(blank);
+    match world.step(alloc, event, false, &mut steps) {
+        Ok(lines) => lines_text(alloc, &lines),
+        Err(fault) => fault_text(alloc, fault),
+    }
+}
+
+// The lines that are printed.
+fn lines_text(alloc: Global, lines: &[OutLine]) -> Result<String, Fail> {
+    let mut out = String::new(alloc);
+    for line in lines {
+        let Some(bytes) = print_out(alloc, line)? else {
+            return Err(Fail::from("a line of a trace"));
+        };
+        let text = String::from_utf8(bytes)?;
+        add(&mut out, text.as_str())?;
+    }
+    Ok(out)
+}

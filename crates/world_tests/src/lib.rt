@@ -1,0 +1,11 @@
+//! Tests of worlds, as recordings. The crate has no code of its own.
+#![tactic(auto)]
+
+#[cfg(test)]
+mod conflicts;
+#[cfg(test)]
+mod connections;
+#[cfg(test)]
+mod played;
+#[cfg(test)]
+mod refusals;
