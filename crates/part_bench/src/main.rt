@@ -1,27 +1,50 @@
-//! The program `part_bench`: one call of a crate below the room done many times, so that a script
-//! can time it.
+//! The program `part_bench`: one call of a crate below the program done many times, so that a script
+//! can time it. Its words are `part_bench WORD SIZE CALLS STEP`:
 //!
-//! `part_bench touch IDS CALLS STEP` touches so many ids in a `ChangeList`, and then one of them at
-//! each call, so far from that of the call before. `part_bench copy IDS CALLS STEP` makes the texts
-//! of the same calls, and touches nothing by them. Each prints its words, and what it comes to: the
-//! last clock, or how many bytes were copied.
+//! - `touch` touches SIZE ids in a `ChangeList`, and then one of them at each call, STEP further than
+//!   that of the call before. It comes to the last clock.
+//! - `copy` makes the texts of the same calls, and touches nothing by them. It comes to how many bytes
+//!   were copied.
+//! - `push` pushes a patch of one of SIZE pages into a room at each call. It comes to the room's clock.
+//! - `take` lets a client of SIZE shapes take a data message at each call, which patches one of them, and
+//!   `make` makes the same client and messages and takes none. They come to how many edits are pending.
+//! - `read_data` reads at each call a data message with SIZE patches, and `print_data` prints it. They
+//!   come to how many events were read, or how many bytes were printed.
+//! - `cut` cuts a text of SIZE bytes into pieces at each call, and puts them together again. It comes to
+//!   how many bytes came together.
+//!
+//! The program prints its words, and what they come to.
 #![tactic(auto)]
 
+mod clients;
+mod cutting;
+mod messages;
+mod rooms;
 mod touching;
 
+use clients::taken;
+use cutting::cut;
+use rooms::pushed;
 use rooms_val::{Mem, Text};
 use std::alloc::Global;
 use std::process::ExitCode;
 use std::{env, io};
 use touching::{Calls, copied, touched};
 
-const USAGE: &str = "usage: part_bench touch|copy IDS CALLS STEP";
+const USAGE: &str =
+    "usage: part_bench touch|copy|push|take|make|read_data|print_data|cut SIZE CALLS STEP";
 
 /// Which call is done many times.
 #[derive(Clone, Copy)]
 enum Call {
     Touch,
     Copy,
+    Push,
+    Take,
+    Make,
+    ReadData,
+    PrintData,
+    Cut,
 }
 
 impl Call {
@@ -30,6 +53,12 @@ impl Call {
         match word {
             "touch" => Some(Call::Touch),
             "copy" => Some(Call::Copy),
+            "push" => Some(Call::Push),
+            "take" => Some(Call::Take),
+            "make" => Some(Call::Make),
+            "read_data" => Some(Call::ReadData),
+            "print_data" => Some(Call::PrintData),
+            "cut" => Some(Call::Cut),
             _ => None,
         }
     }
@@ -39,15 +68,26 @@ impl Call {
         match self {
             Call::Touch => "touch",
             Call::Copy => "copy",
+            Call::Push => "push",
+            Call::Take => "take",
+            Call::Make => "make",
+            Call::ReadData => "read_data",
+            Call::PrintData => "print_data",
+            Call::Cut => "cut",
         }
     }
 
-    /// Does the call on so many ids, and answers what it comes to.
-    fn repeated(self, alloc: Global, ids: u32, calls: Calls) -> Mem<i64> {
-        let ids = made(alloc, ids)?;
+    /// Does the call on so many ids, or bytes, and answers what it comes to.
+    fn repeated(self, alloc: Global, size: u32, calls: Calls) -> Mem<i64> {
         match self {
-            Call::Touch => touched(alloc, &ids, calls),
-            Call::Copy => copied(alloc, &ids, calls),
+            Call::Touch => touched(alloc, &made(alloc, size)?, calls),
+            Call::Copy => copied(alloc, &made(alloc, size)?, calls),
+            Call::Push => pushed(alloc, &made(alloc, size)?, calls),
+            Call::Take => taken(alloc, &made(alloc, size)?, calls),
+            Call::Make => clients::made(alloc, &made(alloc, size)?, calls),
+            Call::ReadData => messages::read(alloc, &made(alloc, size)?, calls.count),
+            Call::PrintData => messages::printed(alloc, &made(alloc, size)?, calls.count),
+            Call::Cut => cut(alloc, size, calls.count),
         }
     }
 }

@@ -41,7 +41,7 @@ pub(crate) struct Calls {
 
 impl Calls {
     /// The id of a call, where there are ids.
-    fn id(self, ids: &[Text], call: u32) -> Option<&Text> {
+    pub(crate) fn id(self, ids: &[Text], call: u32) -> Option<&Text> {
         let count = ids.len() as u64;
         if count == 0 {
             return None;
