@@ -80,6 +80,21 @@ impl Links {
         Ok(ListId { number })
     }
 
+    /// How many lists were made.
+    pub fn list_count(&self) -> usize
+        ensures { result ≡ length self.now.lists }
+    {
+        self.ends.len()
+    }
+
+    /// The list of a number. Lists are numbered from 0 as they are made.
+    pub fn id(&self, number: usize) -> ListId
+        requires { number < length self.now.lists }
+        ensures { result.number ≡ number }
+    {
+        ListId { number }
+    }
+
     /// A new node, which is in no list. Nodes are numbered from 0 as they are made.
     ///
     /// # Errors
