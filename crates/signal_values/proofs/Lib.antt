@@ -1,0 +1,9 @@
+mod MarkLemmas
+mod ListLemmas
+mod AtomLemmas
+mod GraphLemmas
+mod KeptLemmas
+mod SettleLemmas
+mod AskLemmas
+mod WriteLemmas
+mod SeenLemmas

@@ -1,0 +1,5 @@
+pub mod Cells
+pub mod Marks
+pub mod Kept
+pub mod Writes
+pub mod Seen

@@ -1,0 +1,73 @@
+-- Values, as contracts see them.
+use Rattle.std.specs.Prelude.{◌≡◌, ◌≢◌, ℕ, ◌+◌, ◌-◌, ◌<◌, ◌^◌, Bool, true, false, if◌then◌else◌, nat_lt, List, slice_get, Option, Some, option_and_then}
+use Rattle.std.specs.declared.cmp.Ordering.{Ordering}
+use Rattle.signal_rules.specs.Meaning.{Meaning}
+use Rattle.signal_rules.specs.Values.{value, Meets}
+use Rattle.signal_values.specs.declared.cells.Row.{Row}
+use Rattle.signal_values.specs.Cells.{IsFresh, row_of, atoms_of}
+use Rattle.signal_values.specs.Kept.{IsKept, IsFreshKey}
+use Rattle.signal_values.specs.Writes.{or_zero}
+
+-- what contracts see of `Values`: their rules, their rows with the last values and changed epochs, which of them are
+-- fresh, and their epoch
+pub record Seen (R K V : Type 0) : Type 0 where
+  pub rules : R
+  pub rows : List (Row K V)
+  pub fresh : List Bool
+  pub epoch : ℕ
+
+-- the last epoch
+abbrev pub top : ℕ
+top = 2 ^ 64 - 1
+
+-- the value of a key over the atoms
+abbrev pub value_in : {R K V : Type 0} → Meaning K V → (K → K → Ordering) → Seen R K V → K → V
+value_in m cmp values key = value m (atoms_of m cmp values.rows) key
+
+-- a key is fresh: at the last epoch none is
+abbrev pub IsFreshIn : {R K V : Type 0} → Seen R K V → K → Type 0
+IsFreshIn values key = IsFreshKey values.rows values.fresh key × (values.epoch < top)
+
+-- a computation leaves rules, atoms, epoch, and each row as it was unless it was stale and came to another value;
+-- fresh keys stay fresh
+pub record IsGot {R K V : Type 0} (m : Meaning K V) (cmp : K → K → Ordering) (old new : Seen R K V) : Type 0 where
+  pub rules : new.rules ≡ old.rules
+  pub epoch : new.epoch ≡ old.epoch
+  pub atoms : atoms_of m cmp new.rows ≡ atoms_of m cmp old.rows
+  pub rows : IsKept m old.epoch old.rows old.fresh new.rows new.fresh
+  pub fresh : (key : K) → IsFreshKey old.rows old.fresh key → IsFreshKey new.rows new.fresh key
+
+-- the row has the key with its value, and is fresh
+pub record IsValueAt {R K V : Type 0} (m : Meaning K V) (cmp : K → K → Ordering) (old new : Seen R K V) (key : K) (i : ℕ) : Type 0 where
+  pub row : Row K V
+  pub at : slice_get new.rows i ≡ Some row
+  pub is : row.key ≡ key
+  pub value : row.value ≡ value_in m cmp old key
+  pub ready : IsFresh new.fresh i
+
+-- the epoch after a change: it rises, but at its end
+abbrev pub risen : ℕ → ℕ
+risen epoch = if nat_lt epoch top then epoch + 1 else epoch
+
+-- the changed epoch of a key, none where the key was neither set nor computed
+abbrev pub changed_in : {R K V : Type 0} → (K → K → Ordering) → Seen R K V → K → Option ℕ
+changed_in cmp values key = option_and_then (λ row. row.changed) (row_of cmp values.rows key)
+
+-- the atom has a row
+abbrev pub IsListed : {R K V : Type 0} → Seen R K V → K → Type 0
+IsListed {R} {K} {V} values key = (i : ℕ) × (row : Row K V) × (slice_get values.rows i ≡ Some row) × (row.key ≡ key)
+
+-- an atom was set: it has the value, the other atoms and rows are as they were, the epoch rises exactly where the value
+-- differs, and a fresh key whose run doesn't meet the atom stays fresh
+pub record IsSet {R K V : Type 0} (m : Meaning K V) (cmp : K → K → Ordering) (old new : Seen R K V) (key : K) (v : V) (changes : Bool) : Type 0 where
+  pub rules : new.rules ≡ old.rules
+  pub here : atoms_of m cmp new.rows key ≡ v
+  pub others : (other : K) → other ≢ key → atoms_of m cmp new.rows other ≡ atoms_of m cmp old.rows other
+  pub differs : changes ≡ true → (v ≢ atoms_of m cmp old.rows key) × (new.epoch ≡ risen old.epoch) × (changed_in cmp new key ≡ Some (risen old.epoch))
+  pub same : changes ≡ false → (v ≡ atoms_of m cmp old.rows key) × (new.epoch ≡ old.epoch) × (changed_in cmp new key ≡ or_zero (changed_in cmp old key)) × ((other : K) → IsFreshKey old.rows old.fresh other → IsFreshKey new.rows new.fresh other)
+  pub rows : (i : ℕ) (row : Row K V) → slice_get old.rows i ≡ Some row → row.key ≢ key → slice_get new.rows i ≡ Some row
+  pub apart : (other : K) → IsFreshKey old.rows old.fresh other → (Meets m (atoms_of m cmp old.rows) key other → ⊥) → IsFreshKey new.rows new.fresh other
+
+-- a value was put back at an atom, which changed it or not
+abbrev pub IsPutBack : {R K V : Type 0} → Meaning K V → (K → K → Ordering) → Seen R K V → Seen R K V → K → V → Type 0
+IsPutBack m cmp old new key v = (changes : Bool) × IsSet m cmp old new key v changes
