@@ -1,1 +1,12 @@
+pub mod AfterLemmas
 pub mod LeastLemmas
+pub mod FilterLemmas
+pub mod RemovesLemmas
+pub mod SweepLemmas
+pub mod GoesLemmas
+pub mod ChainLemmas
+pub mod TopLemmas
+pub mod PlacingLemmas
+pub mod RuleLemmas
+pub mod PageLemmas
+pub mod CompletedLemmas

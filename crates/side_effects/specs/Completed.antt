@@ -1,5 +1,5 @@
 -- What an edit is completed to, or the first rule that refuses it.
-use Rattle.std.specs.Prelude.{ℕ, nat_lt, length, List, [], ◌∷◌, Bool, true, false, if◌then◌else◌, is_some, Option, Some, None, option_map, option_and_then, Result, Ok, Err}
+use Rattle.std.specs.Prelude.{ℕ, nat_lt, length, List, [], ◌∷◌, if◌then◌else◌, is_some, Option, Some, None, option_map, option_and_then, Result, Ok, Err}
 use Rattle.std.specs.Option.{option_map_or}
 use Rattle.rooms_val.specs.Data.{Pairs}
 use Rattle.rooms_val.specs.Maps.{value_at}
@@ -7,6 +7,10 @@ use Rattle.field_ops.specs.RecordOps.{RecordOpTree, put, patch, remove, RecordOp
 use Rattle.field_ops.specs.Patched.{raw}
 use Rattle.schema_core.specs.Tree.{SchemaTree}
 use Rattle.schema_core.specs.Admits.{is_document, first_fault}
+use Rattle.doc_model.specs.Documents.{fold_raw}
+use Rattle.side_effects.specs.Placed.{placed, unplaced, all_placed, and_then}
+use Rattle.side_effects.specs.Removed.{with_removes}
+use Rattle.side_effects.specs.Whole.{last_page, no_parent, under_itself, no_end}
 use Rattle.side_effects.specs.declared.fault.EditFault.{EditFault}
 use Rattle.side_effects.specs.declared.fault.EditFault.TheVariants.{TooMany, WrongScope, NoRecord, Invalid}
 
@@ -30,15 +34,35 @@ first_refusal rule [] = None
 first_refusal rule (c ∷ diff) = option_map_or (λ fault. Some fault) (rule c.0 c.1) (first_refusal rule diff)
 
 -- a refusal, or what comes after
-abbrev pub unless : Option EditFault → Result RecordOps EditFault → Result RecordOps EditFault
+abbrev pub unless : {A : Type 0} → Option EditFault → Result A EditFault → Result A EditFault
 unless None next = next
 unless (Some fault) next = Err fault
 
--- the wanted diff as it is, or the first rule that refuses it
+-- a refusal, or the next one
+abbrev pub or_else : Option EditFault → Option EditFault → Option EditFault
+or_else None next = next
+or_else (Some fault) next = Some fault
+
+-- why a document isn't whole after a diff in what the wanted one names
+abbrev pub not_whole : Pairs → RecordOps → RecordOps → Option EditFault
+not_whole m wanted diff =
+    let after = fold_raw m diff in
+    or_else (last_page m after) (or_else (first_refusal (no_parent after) wanted) (or_else (first_refusal (under_itself after) wanted) (first_refusal (no_end after) wanted)))
+
+-- the diff, or that it has too many operations
+abbrev pub if_few : RecordOps → Result RecordOps EditFault
+if_few diff = if nat_lt 8192 (length diff) then Err TooMany else Ok diff
+
+-- the wanted diff with the indices that new shapes get, or what refuses it or one of these
+abbrev pub indexed : SchemaTree → Pairs → RecordOps → Result RecordOps EditFault
+indexed s m wanted =
+    unless (first_refusal (wrong_scope s) wanted) (unless (first_refusal (no_record m) wanted) (unless (first_refusal (invalid s m) (placed m wanted)) (all_placed s m (placed m wanted) (unplaced m wanted))))
+
+-- the wanted diff with indices, and with removes of what goes, or the first rule that refuses it
 abbrev pub completed : SchemaTree → Pairs → RecordOps → Result RecordOps EditFault
 completed s m wanted =
     if nat_lt 8192 (length wanted) then Err TooMany
-    else unless (first_refusal (wrong_scope s) wanted) (unless (first_refusal (no_record m) wanted) (unless (first_refusal (invalid s m) wanted) (Ok wanted)))
+    else and_then (indexed s m wanted) (λ diff. let all = with_removes m diff in unless (not_whole m wanted all) (if_few all))
 
 -- nothing, or what is refused
 abbrev pub refusal : Option EditFault → Result (Unit {0}) EditFault

@@ -4,10 +4,16 @@
 //! The crate stands on `doc_store` for stores and on `schema_core` for schemas.
 #![tactic(auto)]
 
+mod after;
+mod chains;
 pub mod completion;
 pub mod fault;
 pub mod laws;
+mod placing;
+mod records;
+mod removing;
 mod rules;
+mod whole;
 
 pub use completion::complete;
 pub use fault::EditFault;
