@@ -1,5 +1,5 @@
 -- Operations in the order of their ids.
-use Rattle.std.proofs.Common.{◌≡◌, List, [], ◌∷◌, ◌++◌, fold, append_assoc, refl, sym, ap, ◌∙◌}
+use Rattle.std.proofs.Common.{◌≡◌, [], ◌∷◌, ◌++◌, fold, append_assoc, sym, ap, ◌∙◌}
 use Rattle.std.proofs.lemmas.List.{append-nil}
 use Rattle.rooms_val.specs.Maps.{AreRising, with_key}
 use Rattle.rooms_val.proofs.MapsLemmas.{put_last, rising_on, rising-with_key}

@@ -1,5 +1,5 @@
 -- Plans go by what sequences stand for, and the empty one leads nowhere but to the same tables.
-use Rattle.std.proofs.Common.{◌≡◌, ℕ, zero, suc, ◌-◌, Bool, true, false, ◌&&◌, ◌||◌, cond, List, [], ◌∷◌, ◌++◌, length, map, fold, Option, None, Some, option_map, Ok, Err, refl, sym, ap, subst, ◌∙◌}
+use Rattle.std.proofs.Common.{◌≡◌, ℕ, suc, ◌-◌, Bool, true, false, ◌&&◌, ◌||◌, cond, List, [], ◌∷◌, ◌++◌, length, map, fold, Option, None, Some, option_map, Ok, Err, refl, sym, ap, ◌∙◌}
 use Rattle.std.specs.Prelude.{Result, slice_get, nat_eq, nat_lt, find}
 use Rattle.std.specs.List.{list_any}
 use Rattle.std.specs.Option.{option_map_or, option_and_then}
@@ -8,7 +8,7 @@ use Rattle.std.proofs.lemmas.List.{length-map}
 use Rattle.std.proofs.lemmas.Option.{slice_get-map}
 use Rattle.rooms_val.specs.Maps.{value_at, with_key}
 use Rattle.migrate_seq.specs.Order.{first_some, in_order}
-use Rattle.migrate_seq.specs.Plans.{migration_at, migrations_at, depends_on, follows, places_from, first_missing, missing_from, version_fault, plan_answer, are_both_ways, newest_versions}
+use Rattle.migrate_seq.specs.Plans.{migration_at, migrations_at, depends_on, follows, places_from, missing_from, version_fault, plan_answer, are_both_ways, newest_versions}
 use Rattle.migrate_seq.specs.Versions.{Versions}
 use Rattle.migrate_seq.specs.declared.fault.PlanFault.{PlanFault}
 use Rattle.migrate_seq.specs.declared.fault.PlanFault.TheVariants.{TooNew, UnknownSequence}
@@ -17,9 +17,7 @@ use Rattle.migrate_seq.specs.declared.migration.Sequence.{Sequence}
 use Rattle.migrate_seq.specs.declared.place.Place.{Place}
 use Rattle.schema_core.specs.Builds.{by_name}
 use Rattle.schema_core.specs.Tree.{SchemaTree}
-use Rattle.room_model.specs.Schemas.{Plan}
 use Rattle.room_schemas.specs.Decided.{both_ways_only, plan_for}
-use Rattle.sync_msgs.specs.declared.end_reason.EndReason.{EndReason}
 use Rattle.sync_msgs.specs.declared.end_reason.EndReason.TheVariants.{ClientTooOld, ServerTooOld}
 use Rattle.tl_tables.specs.Migrations.{base_1, shape_1, shape_2, binding_1, sequence_at, base, binding, shape, sequences}
 use Rattle.tl_tables.specs.Trees.{MigrationTree, SequenceTree, migration_tree, sequence_tree}

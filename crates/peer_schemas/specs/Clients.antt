@@ -1,5 +1,5 @@
 -- What the schemas of the tables decide: for a client by its version alone, for a room by its schema.
-use Rattle.std.specs.Prelude.{◌≡◌, ℕ, min, List, [], length, map, fold, option_map}
+use Rattle.std.specs.Prelude.{◌≡◌, ℕ, min, [], length, map, fold, option_map}
 use Rattle.rooms_val.specs.Data.{Data, Pairs}
 use Rattle.rooms_val.specs.Maps.{AreRising, with_key}
 use Rattle.field_ops.specs.RecordOps.{RecordOps}
