@@ -9,9 +9,9 @@ use Rattle.room_schemas.specs.Decided.{is_presence}
 use Rattle.sync_client.specs.declared.fault.PresenceFault.{PresenceFault}
 use Rattle.sync_client.specs.declared.fault.PresenceFault.TheVariants.{WrongScope, Invalid}
 
--- the id that a record says it has, and the empty one if it says none
+-- the id that a record says it has, and `-`, which is no id, if it says none
 abbrev pub id_of : Data → List ℕ
-id_of d = unwrap_or (option_and_then as_text (field d (codes "id"))) []
+id_of d = unwrap_or (option_and_then as_text (field d (codes "id"))) (codes "-")
 
 -- why a record can't be a client's presence, if it can't
 abbrev pub presence_fault : SchemaTree → Data → Option PresenceFault

@@ -34,15 +34,15 @@ pub(crate) fn check_presence(
     }
 }
 
-// The id that a record says it has, and the empty one if it says none.
+// The id that a record says it has, and `-`, which is no id, if it says none.
 fn id_of(record_: &Val) -> &str
     ensures { result.now ≡ id_of (data_of record_.now) }
 {
     match record_.get("id") {
         Some(val) => match val.as_text() {
             Some(id) => id,
-            None => "",
+            None => "-",
         },
-        None => "",
+        None => "-",
     }
 }
