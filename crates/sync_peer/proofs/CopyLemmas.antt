@@ -1,5 +1,5 @@
 -- A map is copied, one key after another.
-use Rattle.std.proofs.Common.{◌≡◌, ℕ, suc, length, cond, true, false, List, [], ◌∷◌, ◌++◌, map, Some, refl, sym, ap, subst, ◌∙◌, append_assoc, append-nil, is_eq}
+use Rattle.std.proofs.Common.{◌≡◌, ℕ, suc, length, cond, true, false, List, [], ◌∷◌, ◌++◌, map, Some, refl, sym, ap, subst, ◌∙◌, append_assoc, append-nil}
 use Rattle.rooms_val.specs.Data.{Data, Pairs}
 use Rattle.rooms_val.specs.Maps.{added, value_at, AreRising, ties}
 use Rattle.rooms_val.proofs.MapsLemmas.{put_last, at-with_key, order_itself}

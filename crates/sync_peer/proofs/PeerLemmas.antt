@@ -1,5 +1,5 @@
 -- What a peer stands for, said by the schema that it has.
-use Rattle.std.proofs.Common.{◌≡◌, ℕ, List, Bool, true, false, ◌&&◌, cond, Option, None, Some, option_map, Result, Ok, Err, refl, sym, ap, subst, ◌∙◌}
+use Rattle.std.proofs.Common.{◌≡◌, ℕ, List, [], ◌∷◌, Bool, true, false, ◌&&◌, cond, Option, None, Some, option_map, Result, Ok, Err, refl, sym, ap, subst, ◌∙◌}
 use Rattle.std.specs.Prelude.{unwrap_or, nat_lt}
 use Rattle.std.specs.Option.{option_map_or}
 use Rattle.std.specs.Result.{IsErr, IsErrAnd}
@@ -8,6 +8,9 @@ use Rattle.rooms_val.specs.Data.{Data, Pairs}
 use Rattle.rooms_val.specs.Maps.{AreRising}
 use Rattle.field_ops.specs.RecordOps.{RecordOps}
 use Rattle.doc_model.specs.Documents.{replay}
+use Rattle.doc_model.specs.Inverses.{inverse_diff}
+use Rattle.doc_model.specs.Marks.{Marks}
+use Rattle.doc_model.proofs.PlainLemmas.{plain_inverse_diff}
 use Rattle.migrate_seq.specs.Plans.{newest_versions}
 use Rattle.schema_core.specs.SchemaOf.{schema_tree}
 use Rattle.schema_core.specs.declared.schema.Schema.{Schema}
@@ -27,14 +30,19 @@ use Rattle.side_effects.specs.declared.fault.EditFault.TheVariants as edit
 use Rattle.sync_client.specs.Calls.{Held, pushed, after_message}
 use Rattle.sync_client.specs.Presences.{presence_fault, with_presence}
 use Rattle.sync_client.specs.Standing as client
+use Rattle.sync_client.specs.declared.client.SyncClient.{SyncClient}
 use Rattle.sync_client.specs.declared.fault.PresenceFault.{PresenceFault}
 use Rattle.sync_client.specs.declared.fault.PresenceFault.TheVariants as presence
 use Rattle.sync_client.proofs.ClientLemmas.{shows}
 use Rattle.peer_schemas.specs.Clients.{client_at, edit_fault_of, IsDecidedBy}
 use Rattle.peer_schemas.proofs.ClientLemmas.{decided_by}
 use Rattle.peer_schemas.proofs.TypeLemmas.{same_document, same_presence}
-use Rattle.sync_peer.specs.Calls.{shown, others_shown, completion, refusal, done_unless, as_edit}
-use Rattle.sync_peer.specs.Standing.{records_of, Stands}
+use Rattle.undo_marks.specs.Inverses.{diff_has_append}
+use Rattle.undo_marks.specs.declared.fault.BailFault.TheVariants.{NoMark}
+use Rattle.undo_marks.specs.Standing as marks
+use Rattle.undo_marks.proofs.MergeLemmas.{plain_each}
+use Rattle.sync_peer.specs.Calls.{records_of, shown, others_shown, completion, refusal, done_unless, as_edit, with_marks, with_diff, with_marked, back_of}
+use Rattle.sync_peer.specs.Standing.{Stands}
 use Rattle.sync_peer.specs.declared.peer.Peer.{Peer}
 
 module _ (schemas : Schemas EditFault) (held : Held) (peer : Peer) (stands : Stands schemas held peer) where
@@ -89,14 +97,58 @@ module _ (schemas : Schemas EditFault) (held : Held) (peer : Peer) (stands : Sta
 
   -- a peer stands for a client of the same version if its client does, and its schema stays
   pub stands_on : (after : Held) (other : Peer) → after.client.version ≡ held.client.version → other.client.replica.schema ≡ peer.client.replica.schema
-      → client.Stands records_of after other.client → Stands schemas after other
-  stands_on after other same schema is = record {
+      → client.Stands records_of after other.client → marks.Stands after.client.marks other.marks → Stands schemas after other
+  stands_on after other same schema is marked = record {
     tables = stands.tables;
     known = subst IsVersion (sym same) stands.known;
     version = subst (λ n. IsSchemaAt n (schema_tree other.client.replica.schema)) (sym same)
         (subst (λ (s : Schema). IsSchemaAt held.client.version (schema_tree s)) (sym schema) stands.version);
     client = is;
+    marks = marked;
   }
+
+  -- the inverse of what acts in its store is that of what acts in what it shows
+  pub back_is : (diff : RecordOps) → inverse_diff (admits_of peer.client.replica) (records_of peer.client.replica.store) diff ≡ back_of schemas held diff
+  back_is diff = sym (λ i. inverse_diff (admits_are i) (shown_is i) diff)
+
+-- a client by itself knows no marks
+pub marks_free : (m : Marks) (held : Held) (c : SyncClient (Pairs × List Pairs)) → client.Stands records_of held c → client.Stands records_of (with_marks m held) c
+marks_free m held c is = record {
+  replica = is.replica;
+  connection = is.connection;
+  reached = is.reached;
+  presence = is.presence;
+  refused = is.refused;
+  pushes = is.pushes;
+  pending = is.pending;
+  sent = is.sent;
+  closed = is.closed;
+}
+
+-- a diff of marks changes neither version nor marks
+diff_version : (diff : RecordOps) (c : Client) → (with_diff diff c).version ≡ c.version
+diff_version [] c = refl
+diff_version (d ∷ diff) c = refl
+
+diff_marks : (diff : RecordOps) (c : Client) → (with_diff diff c).marks ≡ c.marks
+diff_marks [] c = refl
+diff_marks (d ∷ diff) c = refl
+
+-- a peer stands for a client for which such a diff was done
+pub marked : (schemas : Schemas EditFault) (held : Held) (old other : Peer) → Stands schemas held old → (diff : RecordOps) (m : Marks) → other.client.replica.schema ≡ old.client.replica.schema
+    → ((held : Held) → client.Stands records_of held old.client → client.Stands records_of (record held { client = with_diff diff held.client }) other.client) → marks.Stands m other.marks
+    → Stands schemas (with_marked diff m held) other
+marked schemas held old other stands diff m schema done is =
+    stands_on schemas held old stands (with_marked diff m held) other (diff_version diff (with_marks m held).client) schema (done (with_marks m held) (marks_free m held old.client stands.client))
+    (subst (λ n. marks.Stands n other.marks) (sym (diff_marks diff (with_marks m held).client)) is)
+
+pub bail_found : (o : Option RecordOps) (d : RecordOps) → option_map_or (λ diff. Ok diff) o (Err NoMark) ≡ Ok d → o ≡ Some d
+bail_found None d is = absurd (cc)
+bail_found (Some x) d is = let same : x ≡ d = cc in ap Some same
+
+-- no inverse has an append
+pub plain_back : (admits : List ℕ → Data → Bool) (m : Pairs) (diff back : RecordOps) → back ≡ inverse_diff admits m diff → diff_has_append back ≡ false
+plain_back admits m diff back is = ap diff_has_append is ∙ plain_each (inverse_diff admits m diff) (plain_inverse_diff admits m diff).1
 
 -- no call changes a client's version
 pub push_version : (c : Client) → (pushed c).client.version ≡ c.version
@@ -109,6 +161,19 @@ pub presence_version : (d : Data) (c : Client) → (with_presence d c).version �
 presence_version d c =
     let set : Client = record c { presence = Some d } in
     elim (is_open c.connection) as (λ b. (cond b (with_work (model.presence d) set) set).version ≡ c.version) [ true ↦ refl | false ↦ refl ]
+
+-- nor its marks
+pub end_marks : (reason : EndReason) (c : Client) → (after_end reason c).marks ≡ c.marks
+end_marks ClientTooOld c = refl
+end_marks ServerTooOld c = refl
+end_marks InvalidRecord c = refl
+end_marks RoomFull c = refl
+end_marks Slow c = refl
+
+pub message_marks : (admits : List ℕ → Data → Bool) (is_doc : List ℕ → Bool) (held : Held) (said : ServerMessage) → (after_message admits is_doc held said).client.marks ≡ held.client.marks
+message_marks admits is_doc held (message.Connect hydration request protocol versions diff clock readonly) = refl
+message_marks admits is_doc held (message.Data events) = refl
+message_marks admits is_doc held message.Pong = refl
 
 pub message_version : (admits : List ℕ → Data → Bool) (is_doc : List ℕ → Bool) (held : Held) (said : ServerMessage) → (after_message admits is_doc held said).client.version ≡ held.client.version
 message_version admits is_doc held (message.Connect hydration request protocol versions diff clock readonly) = refl

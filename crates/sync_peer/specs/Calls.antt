@@ -1,15 +1,19 @@
 -- What a client with its base shows, and how the calls of a peer answer.
-use Rattle.std.specs.Prelude.{ℕ, List, Option, Some, None, Result, Ok, Err}
+use Rattle.std.specs.Prelude.{ℕ, List, [], ◌∷◌, Option, Some, None, Result, Ok, Err}
+use Rattle.std.specs.Option.{option_map_or}
 use Rattle.rooms_val.specs.Data.{Data, Pairs}
 use Rattle.field_ops.specs.RecordOps.{RecordOps}
 use Rattle.doc_model.specs.Documents.{replay}
-use Rattle.doc_model.specs.Marks.{Marks}
+use Rattle.doc_model.specs.Inverses.{inverse_diff}
+use Rattle.doc_model.specs.Marks.{Marks, undo_diff, redo_diff, bail_diff, after_edit, after_undo, after_redo, after_bail}
 use Rattle.room_model.specs.Schemas.{Schemas, records_with}
-use Rattle.room_model.specs.Replicas.{schema_of, pending_diffs}
+use Rattle.room_model.specs.Replicas.{Client, edit, with_work, schema_of, pending_diffs}
 use Rattle.sync_client.specs.Calls.{Held}
 use Rattle.sync_client.specs.declared.fault.PresenceFault.{PresenceFault}
 use Rattle.side_effects.specs.declared.fault.EditFault.{EditFault}
 use Rattle.peer_schemas.specs.Clients.{edit_fault_of}
+use Rattle.undo_marks.specs.declared.fault.BailFault.{BailFault}
+use Rattle.undo_marks.specs.declared.fault.BailFault.TheVariants.{NoMark}
 
 module _ (schemas : Schemas EditFault) (held : Held) where
   -- what a client shows: the document of its base, with its pending edits replayed
@@ -43,6 +47,42 @@ abbrev pub as_edit : Result (Unit {0}) PresenceFault → Result (Unit {0}) EditF
 as_edit (Ok done) = Ok done
 as_edit (Err fault) = Err (edit_fault_of fault)
 
--- a client with its base and other marks, of which neither knows
+-- the records of a plain store
+abbrev pub records_of : Pairs × List Pairs → Pairs
+records_of store = store.0
+
+-- a client with its base and other marks
 abbrev pub with_marks : Marks → Held → Held
 with_marks marks held = record held { client = record held.client { marks = marks } }
+
+-- a diff is pending, unless it is empty
+abbrev pub with_diff : RecordOps → Client → Client
+with_diff [] client = client
+with_diff (c ∷ diff) client = with_work (edit (c ∷ diff)) client
+
+-- a diff that marks gave was done, and the marks are these
+abbrev pub with_marked : RecordOps → Marks → Held → Held
+with_marked diff marks held = record held { client = with_diff diff (with_marks marks held).client }
+
+-- whether there is a mark of the name to bail to
+abbrev pub bail_done : List ℕ → Marks → Result (Unit {0}) BailFault
+bail_done name marks = option_map_or (λ diff. Ok tt) (bail_diff name marks) (Err NoMark)
+
+module _ (schemas : Schemas EditFault) where
+  -- the inverse of what acts of a diff in what a client shows
+  abbrev pub back_of : Held → RecordOps → RecordOps
+  back_of held diff = inverse_diff (schema_of schemas held.client).admits (shown schemas held) diff
+
+  -- a client with a further edit, which was completed
+  abbrev pub edited : RecordOps → Held → Held
+  edited diff held = record held { client = with_work (edit diff) (with_marks (after_edit (back_of held diff) held.client.marks) held).client }
+
+  -- a client after an undo, a redo, and a bail to a mark of a name; as it was where there is nothing to do
+  abbrev pub undone : Held → Held
+  undone held = option_map_or (λ diff. with_marked diff (after_undo (back_of held diff) held.client.marks) held) (undo_diff held.client.marks) held
+
+  abbrev pub redone : Held → Held
+  redone held = option_map_or (λ diff. with_marked diff (after_redo (back_of held diff) held.client.marks) held) (redo_diff held.client.marks) held
+
+  abbrev pub bailed : List ℕ → Held → Held
+  bailed name held = option_map_or (λ diff. with_marked diff (after_bail name held.client.marks) held) (bail_diff name held.client.marks) held

@@ -1,30 +1,27 @@
 -- For which of `room_model`'s clients, with which base, a peer stands.
-use Rattle.std.specs.Prelude.{List, Result, Ok, Err}
-use Rattle.rooms_val.specs.Data.{Pairs}
+use Rattle.std.specs.Prelude.{Result, Ok, Err}
 use Rattle.field_ops.specs.RecordOps.{RecordOps}
 use Rattle.schema_core.specs.SchemaOf.{schema_tree}
 use Rattle.room_model.specs.Schemas.{Schemas}
-use Rattle.room_model.specs.Replicas.{edit, with_work}
 use Rattle.side_effects.specs.declared.fault.EditFault.{EditFault}
 use Rattle.tl_tables.specs.Tables.{IsVersion, IsSchemaAt}
 use Rattle.sync_client.specs.Calls.{Held}
 use Rattle.sync_client.specs.Standing as client
+use Rattle.undo_marks.specs.Standing as marks
 use Rattle.peer_schemas.specs.Clients.{AreOfTables}
+use Rattle.sync_peer.specs.Calls.{records_of, edited}
 use Rattle.sync_peer.specs.declared.peer.Peer.{Peer}
 
--- the records of a plain store
-abbrev pub records_of : Pairs × List Pairs → Pairs
-records_of store = store.0
-
--- a peer stands for a client with its base, by what the tables decide; of marks it knows nothing
+-- a peer stands for a client with its base, by what the tables decide
 pub record Stands (schemas : Schemas EditFault) (held : Held) (peer : Peer) : Type 0 where
   pub tables : AreOfTables schemas
   -- its schema is that of the client's version
   pub known : IsVersion held.client.version
   pub version : IsSchemaAt held.client.version (schema_tree peer.client.replica.schema)
   pub client : client.Stands records_of held peer.client
+  pub marks : marks.Stands held.client.marks peer.marks
 
 -- a peer stands for a client with a further edit, which was completed
 abbrev pub Edits : Schemas EditFault → Held → Result RecordOps EditFault → Peer → Type 0
-Edits schemas held (Ok diff) peer = Stands schemas (record held { client = with_work (edit diff) held.client }) peer
+Edits schemas held (Ok diff) peer = Stands schemas (edited schemas diff held) peer
 Edits schemas held (Err fault) peer = ⊥

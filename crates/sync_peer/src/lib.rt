@@ -1,12 +1,11 @@
-//! A client of the tables' schemas: its edits are completed before they are made.
+//! A client of the tables' schemas: its edits are completed before they are made, and can be taken back.
 //!
 //! A `Peer` is a `SyncClient` over the plain store with the schema of a version of the tables. Contracts say for which of
 //! `room_model`'s clients, with which base, it stands (`specs/Standing.antt`): each call's answer is that of the definition,
 //! by what the tables decide (`peer_schemas`), and afterwards the peer stands for the definition's next. The crate stands on
-//! `sync_client` and `side_effects`.
+//! `sync_client`, `side_effects` and `undo_marks`.
 #![tactic(auto)]
 
-pub mod laws;
 pub mod peer;
 
 pub use peer::Peer;

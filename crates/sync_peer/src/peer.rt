@@ -1,5 +1,5 @@
 //! A peer: a client that completes its edits.
-ghost use Rattle.std.specs.Prelude.{◌≡◌, ◌+◌, ◌*◌, ◌≤◌, ◌↔◌, [], length, option_to_list, IfOk, OnOk, OnErr, IsErrOf, Some, None, Ok, Err};
+ghost use Rattle.std.specs.Prelude.{◌≡◌, ◌+◌, ◌*◌, ◌≤◌, ◌↔◌, [], length, option_to_list, is_some, IfOk, OnOk, OnErr, IsErrOf, Some, None, Ok, Err};
 ghost use Rattle.std.specs.Option.{option_map_or};
 ghost use Rattle.std.specs.Borrow.{sem};
 ghost use Rattle.rooms_val.specs.Answers.{Gives};
@@ -19,7 +19,12 @@ ghost use Rattle.side_effects.specs.declared.fault.EditFault.TheVariants as edit
 ghost use Rattle.tl_tables.specs.Tables.{IsVersion};
 ghost use Rattle.tl_tables.specs.declared.tables.TableFault.TheVariants as table_fault;
 ghost use Rattle.peer_schemas.specs.Clients.{AreOfTables};
-ghost use Rattle.sync_peer.specs.Calls.{shown, others_shown, completion, refusal, done_by, done_unless, as_edit};
+ghost use Rattle.doc_model.specs.Inverses.{inverse_diff};
+ghost use Rattle.doc_model.specs.Marks.{after_mark, undo_diff, redo_diff};
+ghost use Rattle.client_replica.specs.Standing.{admits_of};
+ghost use Rattle.sync_client.specs.Standing as client_of;
+ghost use Rattle.undo_marks.specs.declared.fault.BailFault.TheVariants as bail_fault;
+ghost use Rattle.sync_peer.specs.Calls.{records_of, shown, others_shown, completion, refusal, done_by, done_unless, as_edit, with_marks, with_diff, undone, redone, bailed, bail_done};
 
 use doc_store::{DocStore, MapDoc};
 use field_ops::Diff;
@@ -30,6 +35,7 @@ use std::sync::ledger::Ledger;
 use sync_client::{ConnectFault, PresenceFault, SyncClient, TakeFault};
 use sync_msgs::{ClientMessage, EndReason, ServerMessage};
 use tl_tables::{TableFault, schema_at};
+use undo_marks::{BailFault, Marks};
 
 /// A client over a plain store, with the schema of a version of the tables. Contracts say for which of `room_model`'s
 /// clients, with which base, it stands.
@@ -37,6 +43,8 @@ use tl_tables::{TableFault, schema_at};
 pub struct Peer {
     // The client. Its schema is one of the tables', and its edits were completed.
     client: SyncClient<MapDoc>,
+    // What it can take back, and do again.
+    marks: Marks,
 }
 
 impl Peer {
@@ -55,11 +63,12 @@ impl Peer {
         let schema = schema_at(alloc, version)?;
         Ok(Peer {
             client: SyncClient::new(alloc, schema, MapDoc::new(alloc)),
+            marks: Marks::new(alloc),
         })
     }
 
-    /// Does an edit as it is completed against what the peer shows, and it is pending. It costs what the diff names, at
-    /// most a step for each operation.
+    /// Does an edit as it is completed against what the peer shows; it is pending, and its inverse joins what can be taken
+    /// back. It costs what the diff names, at most a step for each operation, and what the edit before it changed.
     ///
     /// # Errors
     /// The first rule of completion that refuses the edit decides; `OutOfMemory` may come in place of any answer. Then the
@@ -81,7 +90,84 @@ impl Peer {
     {
         tell_rising(wanted);
         let diff = complete(alloc, self.client.schema(), self.client.store(), wanted)?;
-        self.client.edit(alloc, diff, steps)?;
+        self.marks.edit(alloc)?;
+        let back = self.client.edit(alloc, diff, steps)?;
+        self.marks.record(back);
+        Ok(())
+    }
+
+    /// Makes a mark, to which an undo or a bail goes back. Where memory is refused nothing changes.
+    pub fn mark(&mut self, name: Text) -> Mem<()>
+        ensures ok { OnOk result ((schemas : Schemas EditFault) (held : Held)
+            → Stands schemas held self.old
+            → Stands schemas (with_marks (after_mark name held.client.marks) held) self.new) }
+        ensures err { OnErr result ((schemas : Schemas EditFault) (held : Held)
+            → Stands schemas held self.old → Stands schemas held self.new) }
+    {
+        self.marks.mark(name)
+    }
+
+    /// Takes the edits since the last mark back, by a diff that is done to what the peer shows and is pending, unless it is
+    /// empty; what others did since stays. Returns whether there was an edit to take back. It costs what the diff names.
+    /// Where memory is refused the peer is as before.
+    pub fn undo<L: Ledger>(&mut self, alloc: Global, steps: &mut Steps<L>) -> Mem<bool>
+        ensures answer { IfOk result (λ done. (schemas : Schemas EditFault) (held : Held)
+            → Stands schemas held self.old → done ≡ is_some (undo_diff held.client.marks)) }
+        ensures ok { OnOk result ((schemas : Schemas EditFault) (held : Held)
+            → Stands schemas held self.old → Stands schemas (undone schemas held) self.new) }
+        ensures err { OnErr result ((schemas : Schemas EditFault) (held : Held)
+            → Stands schemas held self.old → Stands schemas held self.new) }
+    {
+        let Some(diff) = self.marks.undo(alloc)? else {
+            return Ok(false);
+        };
+        let back = make(alloc, &mut self.client, diff, steps)?;
+        self.marks.undone(back);
+        Ok(true)
+    }
+
+    /// Does again what the last undo took back, by a diff that is done to what the peer shows and is pending, unless it is
+    /// empty. Returns whether there was something to do again. It costs what the diff names. Where memory is refused the
+    /// peer is as before.
+    pub fn redo<L: Ledger>(&mut self, alloc: Global, steps: &mut Steps<L>) -> Mem<bool>
+        ensures answer { IfOk result (λ done. (schemas : Schemas EditFault) (held : Held)
+            → Stands schemas held self.old → done ≡ is_some (redo_diff held.client.marks)) }
+        ensures ok { OnOk result ((schemas : Schemas EditFault) (held : Held)
+            → Stands schemas held self.old → Stands schemas (redone schemas held) self.new) }
+        ensures err { OnErr result ((schemas : Schemas EditFault) (held : Held)
+            → Stands schemas held self.old → Stands schemas held self.new) }
+    {
+        let Some(diff) = self.marks.redo(alloc)? else {
+            return Ok(false);
+        };
+        let back = make(alloc, &mut self.client, diff, steps)?;
+        self.marks.redone(back);
+        Ok(true)
+    }
+
+    /// Takes all edits since the last mark of a name back, by a diff that is done to what the peer shows and is pending,
+    /// unless it is empty. They can't be done again, and the mark is gone. It costs what the diff names.
+    ///
+    /// # Errors
+    /// `NoMark` exactly where there is no mark of the name, or `OutOfMemory`. Then the peer is as before.
+    pub fn bail<L: Ledger>(
+        &mut self,
+        alloc: Global,
+        name: &str,
+        steps: &mut Steps<L>,
+    ) -> Result<(), BailFault>
+        ensures fault { (schemas : Schemas EditFault) (held : Held) → Stands schemas held self.old
+            → Gives bail_fault.OutOfMemory
+            (λ done. done) result (bail_done name.now held.client.marks) }
+        ensures ok { OnOk result ((schemas : Schemas EditFault) (held : Held)
+            → Stands schemas held self.old
+            → Stands schemas (bailed schemas name.now held) self.new) }
+        ensures err { OnErr result ((schemas : Schemas EditFault) (held : Held)
+            → Stands schemas held self.old → Stands schemas held self.new) }
+    {
+        let diff = self.marks.bail(alloc, name)?;
+        let _ = make(alloc, &mut self.client, diff, steps)?;
+        self.marks.bailed();
         Ok(())
     }
 
@@ -248,6 +334,27 @@ fn copy_record(alloc: Global, store: &MapDoc, id: Text, fields: &mut Fields) -> 
         drop(fields.put(id, record)?);
     }
     Ok(())
+}
+
+// Does a diff that marks gave, unless it is empty, and returns the inverse of what acted.
+fn make<L: Ledger>(
+    alloc: Global,
+    client: &mut SyncClient<MapDoc>,
+    diff: Diff,
+    steps: &mut Steps<L>,
+) -> Mem<Diff>
+    ensures ok { OnOk result ((held : Held) → client_of.Stands records_of held client.old
+        → client_of.Stands records_of (record held { client = with_diff diff held.client }) client.new) }
+    ensures back { IfOk result (λ back. back ≡ inverse_diff
+        (admits_of client.old.replica) (records_of client.old.replica.store) diff) }
+    ensures err { OnErr result ((held : Held) → client_of.Stands records_of held client.old
+        → client_of.Stands records_of held client.new) }
+    ensures schema { client.new.replica.schema ≡ client.old.replica.schema }
+{
+    if diff.is_empty() {
+        return Ok(diff);
+    }
+    client.edit(alloc, diff, steps)
 }
 
 // That the ids of a diff rise is told by its length.

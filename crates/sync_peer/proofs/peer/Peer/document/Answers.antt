@@ -2,7 +2,7 @@ use Rattle.std.proofs.Common.{sym, ap, subst, List, ◌∙◌}
 use Rattle.room_model.specs.Worlds.{map_val}
 use Rattle.rooms_val.specs.Data.{Pairs}
 use Rattle.rooms_val.specs.Maps.{AreRising, added, value_at}
-use Rattle.sync_peer.specs.Standing.{records_of}
+use Rattle.sync_peer.specs.Calls.{records_of}
 use Rattle.sync_peer.proofs.CopyLemmas.{IsCopied, none_copied, one_copied, all_copied, nothing_left}
 use Rattle.sync_peer.proofs.PeerLemmas.{shown_is}
 use Rattle.sync_peer.proofs.peer.Peer.document.Goals as goal

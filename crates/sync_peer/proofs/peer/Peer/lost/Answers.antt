@@ -2,7 +2,7 @@ use Rattle.std.proofs.Common.{refl, sym, subst}
 use Rattle.room_model.specs.Schemas.{records_with}
 use Rattle.room_model.specs.Replicas.{after_cut}
 use Rattle.sync_client.specs.Standing as client
-use Rattle.sync_peer.specs.Standing.{records_of}
+use Rattle.sync_peer.specs.Calls.{records_of}
 use Rattle.sync_peer.proofs.PeerLemmas.{stands_on, document_is}
 use Rattle.sync_peer.proofs.peer.Peer.lost.Goals as goal
 
@@ -11,7 +11,7 @@ returns c = record {
   stands = λ schemas held stands.
       let old = c.args.self.now in
       let left = after_cut held.client in
-      stands_on schemas held old stands (record { base = records_with schemas.is_document held.base; client = left }) (record { client = c.lost.new.self }) refl c.lost.ensures.schema
+      stands_on schemas held old stands (record { base = records_with schemas.is_document held.base; client = left }) (record { client = c.lost.new.self; marks = old.marks }) refl c.lost.ensures.schema
       (subst (λ test. client.Stands records_of (record { base = records_with test held.base; client = left }) c.lost.new.self)
-      (sym (document_is schemas held old stands)) (c.lost.ensures.stands held stands.client));
+      (sym (document_is schemas held old stands)) (c.lost.ensures.stands held stands.client)) stands.marks;
 }

@@ -12,4 +12,5 @@ returns-clause-stands c = λ schemas of. record {
   known = is_version c.args.version (λ none. let never : Ok c.in_ok-schema.schema ≡ Err NoSuchVersion = c.in_ok-schema.ensures.unknown.1 none in absurd (cc));
   version = subst (λ (s : Schema). IsSchemaAt c.args.version (schema_tree s)) (sym c.new-2.ensures.schema) c.in_ok-schema.ensures.known;
   client = c.new-2.ensures.stands c.args.version;
+  marks = c.new-3.ensures.stands;
 }
