@@ -3,6 +3,7 @@ use Rattle.std.proofs.Common.{◌≡◌, ℕ, ◌<◌, false, [], get_or, slice_
 use Rattle.std.specs.Prelude.{vec_len}
 use Rattle.std.specs.Global.{Vec}
 use Rattle.field_ops.specs.RecordOps.{RecordOps}
+use Rattle.doc_model.specs.Inverses.{inverse_diff}
 use Rattle.doc_model.specs.Marks as marks
 use Rattle.room_model.specs.Schemas.{Schemas}
 use Rattle.room_model.specs.Replicas.{Client, edit, with_work, push_all, schema_of}
@@ -29,7 +30,6 @@ use Rattle.sync_world.proofs.WorldLemmas.{base_alike}
 use Rattle.sync_world.proofs.OutcomeLemmas.{edits, edits_not}
 use Rattle.sync_world.proofs.PartLemmas.{happened, fits_client, pushing_over}
 use Rattle.sync_world.proofs.EventLemmas.{is_there}
-use Rattle.sync_world.proofs.RoomPeerLemmas.{marks_stay}
 use Rattle.sync_world.proofs.ShowLemmas.{shown_is}
 
 module _ (schemas : Schemas EditFault) (w : model.World) (live : Live) (keeps : Keeps schemas w live) (at : ℕ) (one : WorldClient) (less : at < vec_len live.clients)
@@ -69,9 +69,9 @@ module _ (schemas : Schemas EditFault) (w : model.World) (live : Live) (keeps : 
       → Answers schemas w (on_edit schemas at wanted w) (Ok lines) new) [
         | Err fault ↦ λ completes none. absurd none
         | Ok diff ↦ λ completes stands.
-            let ms = marks.after_edit (inverse_in schemas w c diff) c.marks in
-            let d = with_work (edit diff) (record c { marks = ms }) in
-            let marked = marks_stay schemas (record held { client = with_work (edit diff) c }) ms after stands in
+            let back = ap (λ m. inverse_diff (schema_of schemas c).admits m diff) (shown_is schemas w live keeps at c it.made) in
+            let d = with_work (edit diff) (record c { marks = marks.after_edit (inverse_in schemas w c diff) c.marks }) in
+            let marked = subst (λ b. peer_of.Stands schemas (record held { client = with_work (edit diff) (record c { marks = marks.after_edit b c.marks }) }) after) back stands in
             let kept : IsClient schemas w.room.history d (record one { peer = after }) = record {
               peer = subst (λ b. peer_of.Stands schemas (record { base = b; client = d }) after) (sym (base_alike schemas w.room.history c d refl refl refl)) marked;
               session = it.kept.session;

@@ -15,3 +15,4 @@ pub mod DeliverLemmas
 pub mod ConnectLemmas
 pub mod BeginLemmas
 pub mod StepLemmas
+pub mod BackLemmas

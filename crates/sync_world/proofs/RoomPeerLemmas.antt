@@ -1,11 +1,9 @@
 -- What the room and the peers say of themselves.
 use Rattle.std.proofs.Common.{◌≡◌, Bool, false, cond, Some, None, refl, sym, ap, ◌∙◌}
 use Rattle.std.specs.Prelude.{slice_get, option_and_then}
-use Rattle.doc_model.specs.Marks.{Marks}
 use Rattle.room_model.specs.Schemas.{Schemas, AreLawful}
 use Rattle.room_model.specs.Rooms as model
 use Rattle.side_effects.specs.declared.fault.EditFault.{EditFault}
-use Rattle.sync_client.specs.Calls.{Held}
 use Rattle.peer_schemas.specs.Clients.{AreOfTables}
 use Rattle.sync_room.specs.Sessions.{IsIn, phase_of, session_of}
 use Rattle.sync_room.specs.Standing as room_of
@@ -13,35 +11,11 @@ use Rattle.sync_room.specs.declared.room.Room.{Room}
 use Rattle.sync_room.specs.declared.session.Phase.{Phase}
 use Rattle.sync_room.specs.declared.session.Phase.TheVariants.{New, Asked, Live, Ended}
 use Rattle.sync_room.specs.declared.session.SessionId.{SessionId}
-use Rattle.sync_peer.specs.Calls.{with_marks}
-use Rattle.sync_peer.specs.Standing as peer_of
-use Rattle.sync_peer.specs.declared.peer.Peer.{Peer}
 use Rattle.peer_schemas.proofs.ClientLemmas.{lawful}
 
 -- what the tables decide is lawful
 pub lawful_of : (schemas : Schemas EditFault) → AreOfTables schemas → AreLawful schemas
 lawful_of schemas tables = lawful schemas tables
-
--- a peer knows no marks
-pub marks_stay : (schemas : Schemas EditFault) (held : Held) (marks : Marks) (one : Peer) → peer_of.Stands schemas held one → peer_of.Stands schemas (with_marks marks held) one
-marks_stay schemas held marks one stands =
-    let is = stands.client in
-    record {
-      tables = stands.tables;
-      known = stands.known;
-      version = stands.version;
-      client = record {
-        replica = is.replica;
-        connection = is.connection;
-        reached = is.reached;
-        presence = is.presence;
-        refused = is.refused;
-        pushes = is.pushes;
-        pending = is.pending;
-        sent = is.sent;
-        closed = is.closed;
-      };
-    }
 
 stays : (phase : Phase) → model.has_left (phase_of phase) ≡ false
 stays New = refl

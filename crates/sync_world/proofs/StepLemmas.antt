@@ -1,15 +1,26 @@
 -- What a world answers to a step, from what its parts answer.
-use Rattle.std.proofs.Common.{Ok, Err, Result, refl}
+use Rattle.std.proofs.Common.{◌≡◌, ℕ, List, Bool, slice_get, Some, Ok, Err, OnOk, Result, refl, ap, subst}
 use Rattle.std.specs.Global.{Vec}
+use Rattle.rooms_val.specs.Data.{Pairs}
 use Rattle.room_model.specs.Schemas.{Schemas}
+use Rattle.room_model.specs.Replicas.{Client}
 use Rattle.room_model.specs.Worlds as model
-use Rattle.room_model.specs.Worlds.{Outcome}
+use Rattle.room_model.specs.Worlds.{Outcome, shown_in, after_event}
+use Rattle.room_model.specs.declared.event.Event.{Event}
+use Rattle.room_model.specs.declared.event.Event.TheVariants as event
 use Rattle.room_model.specs.declared.fault.StepFault.{StepFault}
 use Rattle.room_model.specs.declared.fault.StepFault.TheVariants.{NoSuchClient, NoSuchSession, NothingThere, Edit, Connect, NoMark, Limit, OutOfMemory}
 use Rattle.room_model.specs.declared.line.OutLine.{OutLine}
 use Rattle.side_effects.specs.declared.fault.EditFault.{EditFault}
+use Rattle.peer_schemas.specs.Clients.{AreOfTables}
+use Rattle.world_laws.specs.Restoring.{IsSinceMark}
+use Rattle.world_laws.proofs.BackLemmas.{bail_brings, undo_brings, ever_since}
+use Rattle.sync_world.specs.Standing.{Keeps, Stands}
 use Rattle.sync_world.specs.Answers.{Answers, StepsTo, is_spent}
+use Rattle.sync_world.specs.Restoring.{GoesBack, Shows}
 use Rattle.sync_world.specs.declared.live.Live.{Live}
+use Rattle.sync_world.specs.declared.world.World.{World}
+use Rattle.sync_world.proofs.RoomPeerLemmas.{lawful_of}
 
 -- a world is spent exactly by the answer that memory ran out
 pub steps_to : (schemas : Schemas EditFault) (w : model.World) (outcome : Outcome EditFault) (answer : Result (Vec OutLine) (StepFault EditFault)) (live : Live)
@@ -23,3 +34,31 @@ steps_to schemas w outcome (Err (Connect fault)) live h = (h.0, record { going =
 steps_to schemas w outcome (Err NoMark) live h = (h.0, record { going = refl; keeps = h.1 })
 steps_to schemas w outcome (Err Limit) live h = (h.0, record { going = refl; keeps = h.1 })
 steps_to schemas w outcome (Err OutOfMemory) live h = refl
+
+-- what goes back to a mark shows again what the client showed when it made it
+shows_again : (schemas : Schemas EditFault) → AreOfTables schemas → (trace : Bool) (w : model.World) (number : ℕ) (name : List ℕ) (before : Pairs) (made : model.Stepped) (after : Client) (e : Event)
+    → IsSinceMark schemas number name before w → GoesBack schemas w number name before e → after_event schemas trace w e ≡ Ok made → slice_get made.world.clients number ≡ Some after
+    → shown_in schemas made.world after ≡ before
+shows_again schemas tables trace w number name before made after (event.Bail client other) since goes is there =
+    let at = goes.2 in
+    let same : event.Bail client other ≡ event.Bail number name = λ i. event.Bail (goes.0 i) (goes.1 i) in
+    bail_brings schemas trace w number name at.client after before at.diff made (ever_since schemas (lawful_of schemas tables) number name before w since) at.there at.bails at.admitted
+    (subst (λ e. after_event schemas trace w e ≡ Ok made) same is) there
+shows_again schemas tables trace w number name before made after (event.Undo client) since goes is there =
+    let at = goes.1 in
+    undo_brings schemas trace w number name at.client after before at.diff at.earlier at.first at.more made (ever_since schemas (lawful_of schemas tables) number name before w since) at.there at.last at.undoes at.admitted
+    (subst (λ e. after_event schemas trace w e ≡ Ok made) (ap (λ n. event.Undo n) goes.0) is) there
+shows_again schemas tables trace w number name before made after other since goes is there = absurd goes
+
+pub goes_back : (trace : Bool) (e : Event) (old : World) (live : Live) (spent : Bool) (answer : Result (Vec OutLine) (StepFault EditFault)) → spent ≡ is_spent answer
+    → ((schemas : Schemas EditFault) (w : model.World) → Keeps schemas w old.live → Answers schemas w (after_event schemas trace w e) answer live)
+    → OnOk answer ((schemas : Schemas EditFault) (w : model.World) (number : ℕ) (name : List ℕ) (before : Pairs) → Stands schemas w old → IsSinceMark schemas number name before w
+    → GoesBack schemas w number name before e → Shows schemas number before (record { live = live; spent = spent }))
+goes_back trace e old live spent (Err fault) going answers = tt
+goes_back trace e old live spent (Ok lines) going answers = λ schemas w number name before stands since goes.
+    let answered = answers schemas w stands.keeps in
+    record {
+      world = answered.0.world;
+      stands = record { going = going; keeps = answered.3 };
+      shows = λ after there. shows_again schemas stands.keeps.fits.tables trace w number name before answered.0 after e since goes answered.1 there;
+    }

@@ -1,7 +1,9 @@
 pub mod Playing
 pub mod Sending
+pub mod Pushing
 pub mod Holding
 pub mod Keeping
 pub mod Standing
 pub mod Moving
 pub mod Answers
+pub mod Restoring

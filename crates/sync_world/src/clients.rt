@@ -129,5 +129,10 @@ fn refused(fault: EditFault) -> Mem<Answer>
         EditFault::WrongScope(id) => Ok(Err(StepFault::Edit(EditFault::WrongScope(id)))),
         EditFault::NoRecord(id) => Ok(Err(StepFault::Edit(EditFault::NoRecord(id)))),
         EditFault::Invalid(id, fault) => Ok(Err(StepFault::Edit(EditFault::Invalid(id, fault)))),
+        EditFault::NoKey(fault) => Ok(Err(StepFault::Edit(EditFault::NoKey(fault)))),
+        EditFault::LastPage => Ok(Err(StepFault::Edit(EditFault::LastPage))),
+        EditFault::NoParent(id) => Ok(Err(StepFault::Edit(EditFault::NoParent(id)))),
+        EditFault::UnderItself(id) => Ok(Err(StepFault::Edit(EditFault::UnderItself(id)))),
+        EditFault::NoEnd(id) => Ok(Err(StepFault::Edit(EditFault::NoEnd(id)))),
     }
 }

@@ -10,6 +10,7 @@
 
 mod clients;
 mod live;
+mod marks;
 mod sessions;
 mod shows;
 pub mod world;

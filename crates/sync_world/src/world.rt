@@ -1,5 +1,6 @@
 //! A world, which plays a recording event by event.
-ghost use Rattle.std.specs.Prelude.{◌≡◌, ◌<◌, ℕ, Bool, true, Some, IfOk, Err, slice_get, vec_len};
+ghost use Rattle.std.specs.Prelude.{◌≡◌, ◌<◌, ℕ, List, Bool, true, Some, IfOk, OnOk, Err, slice_get, vec_len};
+ghost use Rattle.rooms_val.specs.Data.{Pairs};
 ghost use Rattle.room_model.specs.Schemas.{Schemas};
 ghost use Rattle.room_model.specs.Replicas.{Client};
 ghost use Rattle.room_model.specs.Worlds as model;
@@ -7,10 +8,12 @@ ghost use Rattle.room_model.specs.Worlds.{new_world, after_event};
 ghost use Rattle.side_effects.specs.declared.fault.EditFault.{EditFault};
 ghost use Rattle.tl_tables.specs.Tables.{IsVersion};
 ghost use Rattle.sync_peer.specs.Standing as peer_of;
+ghost use Rattle.world_laws.specs.Restoring.{IsSinceMark};
 ghost use Rattle.sync_world.specs.Playing.{IsPlayed};
 ghost use Rattle.sync_world.specs.Holding.{held_of};
 ghost use Rattle.sync_world.specs.Standing.{Stands, IsAtVersion};
 ghost use Rattle.sync_world.specs.Answers.{StepsTo, is_spent};
+ghost use Rattle.sync_world.specs.Restoring.{GoesBack, Shows};
 
 use crate::live::{Answer, Live};
 use room_model::fault::StepFault;
@@ -57,13 +60,17 @@ impl World {
     }
 
     /// Lets an event happen, and answers the lines that it prints; with `trace` also those of the
-    /// messages that it moves. Events of marks are refused before a world, and a client's version
-    /// is 1 to 3. It costs what the room and the client take for it, however many events came
-    /// before; `Show` and `End` cost the document.
+    /// messages that it moves. A client's version is 1 to 3. It costs what the room and the client
+    /// take for it, however many events came before; `Show` and `End` cost the document.
+    ///
+    /// A bail to a mark makes the client show again what it showed when it made the mark, if since
+    /// then it had edits, but no delivery but its end, undo, redo or bail, and made no mark of the
+    /// name; so does an undo, if there is no later mark at all and some edit left an inverse. The
+    /// records that they patch back are to be admitted at the client's version.
     ///
     /// # Errors
     ///
-    /// `NoSuchClient`, `NoSuchSession`, `NothingThere`, `Edit`, `Connect` and `Limit` exactly if
+    /// `NoSuchClient`, `NoSuchSession`, `NothingThere`, `Edit`, `Connect`, `NoMark` and `Limit` exactly if
     /// the definitions refuse the event so; then the world is as before. After `OutOfMemory` every
     /// further step answers it.
     pub fn step<L: Ledger>(
@@ -77,6 +84,11 @@ impl World {
         ensures step { (schemas : Schemas EditFault) (world : model.World)
             → Stands schemas world self.old
             → StepsTo schemas world (after_event schemas trace world event) result self.new }
+        ensures goes_back { OnOk result ((schemas : Schemas EditFault) (world : model.World)
+            (number : ℕ) (name : List ℕ) (before : Pairs)
+            → Stands schemas world self.old → IsSinceMark schemas number name before world
+            → GoesBack schemas world number name before event
+            → Shows schemas number before self.new) }
         ensures spent { self.old.spent ≡ true
             → (result ≡ Err StepFault.OutOfMemory) × (self.new.spent ≡ true) }
         ensures spends { result ≡ Err StepFault.OutOfMemory → self.new.spent ≡ true }

@@ -1,7 +1,7 @@
 use Rattle.std.proofs.Common.{◌∙◌, ap, sym, subst}
 use Rattle.room_model.specs.Worlds.{after_event}
 use Rattle.sync_world.specs.Answers.{StepsTo, is_spent}
-use Rattle.sync_world.proofs.StepLemmas.{steps_to}
+use Rattle.sync_world.proofs.StepLemmas.{steps_to, goes_back}
 use Rattle.sync_world.proofs.world.World.step.Goals as goal
 
 pub returns-in-Ok-clause-step : goal.returns-in-Ok-clause-step
@@ -12,3 +12,6 @@ returns-in-Ok-clause-step g c = λ schemas world stands.
 
 pub returns-in-Ok-clause-spends : goal.returns-in-Ok-clause-spends
 returns-in-Ok-clause-spends g c = λ is. c.is_spent-self.ensures ∙ ap is_spent is
+
+pub returns-in-Ok-clause-goes_back : goal.returns-in-Ok-clause-goes_back
+returns-in-Ok-clause-goes_back g c = goes_back c.args.trace c.args.event c.args.self.now c.happen.new.self _ c.in-Ok.answer c.is_spent-self.ensures c.in-Ok.ensures
