@@ -4,8 +4,6 @@ use Rattle.rooms_val.specs.Data.{Data, depth}
 use Rattle.rooms_val.specs.Json.{json_of, is_within, deepest}
 use Rattle.room_model.specs.declared.event.Event.{Event}
 use Rattle.room_model.specs.declared.event.Event.TheVariants as event
-use Rattle.room_model.specs.declared.line.OutLine.{OutLine}
-use Rattle.room_model.specs.declared.line.OutLine.TheVariants as line
 
 -- a number that a value can have
 abbrev pub Fits : ℕ → Type 0
@@ -28,18 +26,6 @@ IsPrintable (event.Cut c) = Fits c
 IsPrintable (event.Lose s) = Fits s
 IsPrintable (event.Show c) = Fits c
 IsPrintable event.End = Unit {0}
-
--- the line's numbers fit
-abbrev pub IsPrintableLine : OutLine → Type 0
-IsPrintableLine (line.Undo c done) = Fits c
-IsPrintableLine (line.Redo c done) = Fits c
-IsPrintableLine (line.Ended c reason) = Fits c
-IsPrintableLine (line.Show c clock doc others owed) = Fits c × Fits owed
-IsPrintableLine (line.End clock doc presence) = Unit {0}
-IsPrintableLine (line.From s message) = Unit {0}
-IsPrintableLine (line.To s message) = Unit {0}
-IsPrintableLine (line.Ending s reason) = Fits s
-IsPrintableLine (line.Fault at t) = Fits at
 
 -- the value's numbers are in range, and it isn't too deep: what is printed is read again
 abbrev pub IsReadable : Data → Type 0

@@ -1,75 +1,72 @@
-//! The printing of lines, each without its newline.
-ghost use Rattle.std.specs.Prelude.{◌≡◌, IfOk, option_map};
+//! The printing of lines, each without a newline.
+ghost use Rattle.std.specs.Prelude.{◌≡◌, IfOk};
 ghost use Rattle.rooms_val.specs.Data.{text};
 ghost use Rattle.rooms_val.specs.View.{data_of};
 ghost use Rattle.rec_format.specs.Outs.{reason_text, line_fields, line_text};
 ghost use Rattle.rec_format.specs.Outs.{undo_fields, redo_fields, ended_fields, fault_fields};
 ghost use Rattle.rec_format.specs.Outs.{clock_and_doc, show_fields, end_fields, ending_fields};
-ghost use Rattle.rec_format.specs.Printing.{Fits, IsPrintableLine};
+ghost use Rattle.rec_format.specs.Outs.{from_fields, to_fields};
 
 use crate::fields::{number, with};
 use room_model::OutLine;
 use rooms_val::{Fields, Mem, Text, Val};
 use std::alloc::Global;
-use sync_msgs::EndReason;
+use sync_msgs::{ClientMessage, EndReason, ServerMessage};
+use wire_msgs::Message;
 
-/// The text of a line. `None` exactly where it is a message of a trace, `From` or `To`: the text of
-/// messages isn't made yet. It costs what is printed.
+/// The text of a line. It costs what is printed.
 ///
 /// A number from 2^63 on is printed as 2^63 - 1.
-pub fn print_out(alloc: Global, line: &OutLine) -> Mem<Option<Vec<u8>>>
-    ensures { IfOk result (λ printed. IsPrintableLine line.now
-        → option_map (λ text. text.items) printed ≡ line_text line.now) }
+pub fn print_out(alloc: Global, line: &OutLine) -> Mem<Vec<u8>>
+    ensures { IfOk result (λ printed. printed.items ≡ line_text line.now) }
 {
-    match fields_of(alloc, line)? {
-        Some(fields) => Ok(Some(Val::Map(fields).print(alloc)?)),
-        None => Ok(None),
-    }
+    let fields = fields_of(alloc, line)?;
+    Ok(Val::Map(fields).print(alloc)?)
 }
 
 // The fields of a line.
-fn fields_of(alloc: Global, line: &OutLine) -> Mem<Option<Fields>>
-    ensures { IfOk result (λ fields. IsPrintableLine line.now → fields ≡ line_fields line.now) }
+fn fields_of(alloc: Global, line: &OutLine) -> Mem<Fields>
+    ensures { IfOk result (λ fields. fields ≡ line_fields line.now) }
 {
     match line {
-        OutLine::Undo { client, done } => Ok(Some(undo_fields(alloc, *client, *done)?)),
-        OutLine::Redo { client, done } => Ok(Some(redo_fields(alloc, *client, *done)?)),
-        OutLine::Ended { client, reason } => Ok(Some(ended_fields(alloc, *client, *reason)?)),
+        OutLine::Undo { client, done } => undo_fields(alloc, *client, *done),
+        OutLine::Redo { client, done } => redo_fields(alloc, *client, *done),
+        OutLine::Ended { client, reason } => ended_fields(alloc, *client, *reason),
         OutLine::Show {
             client,
             clock,
             doc,
             others,
             owed,
-        } => { Ok(Some(show_fields(alloc, *client, *clock, doc, others, *owed)?)) }
+        } => show_fields(alloc, *client, *clock, doc, others, *owed),
         OutLine::End {
             clock,
             doc,
             presence,
-        } => Ok(Some(end_fields(alloc, *clock, doc, presence)?)),
-        OutLine::From { .. } => Ok(None),
-        OutLine::To { .. } => Ok(None),
-        OutLine::Ending { session, reason } => Ok(Some(ending_fields(alloc, *session, *reason)?)),
-        OutLine::Fault { at, text } => Ok(Some(fault_fields(alloc, *at, text)?)),
+        } => end_fields(alloc, *clock, doc, presence),
+        OutLine::From { session, message } => from_fields(alloc, *session, message),
+        OutLine::To { session, message } => to_fields(alloc, *session, message),
+        OutLine::Ending { session, reason } => ending_fields(alloc, *session, *reason),
+        OutLine::Fault { at, text } => fault_fields(alloc, *at, text),
     }
 }
 
 fn undo_fields(alloc: Global, client: u64, done: bool) -> Mem<Fields>
-    ensures { IfOk result (λ fields. Fits client → fields ≡ undo_fields client done) }
+    ensures { IfOk result (λ fields. fields ≡ undo_fields client done) }
 {
     let fields = with(alloc, Fields::new(alloc), "client", number(client))?;
     with(alloc, fields, "undo", Val::Bool(done))
 }
 
 fn redo_fields(alloc: Global, client: u64, done: bool) -> Mem<Fields>
-    ensures { IfOk result (λ fields. Fits client → fields ≡ redo_fields client done) }
+    ensures { IfOk result (λ fields. fields ≡ redo_fields client done) }
 {
     let fields = with(alloc, Fields::new(alloc), "client", number(client))?;
     with(alloc, fields, "redo", Val::Bool(done))
 }
 
 fn ended_fields(alloc: Global, client: u64, reason: EndReason) -> Mem<Fields>
-    ensures { IfOk result (λ fields. Fits client → fields ≡ ended_fields client reason) }
+    ensures { IfOk result (λ fields. fields ≡ ended_fields client reason) }
 {
     let fields = with(alloc, Fields::new(alloc), "client", number(client))?;
     with(alloc, fields, "ended", reason_val(alloc, reason)?)
@@ -83,8 +80,8 @@ fn show_fields(
     others: &Val,
     owed: u64,
 ) -> Mem<Fields>
-    ensures { IfOk result (λ fields. Fits client → Fits owed
-        → fields ≡ show_fields client clock (data_of doc.now) (data_of others.now) owed) }
+    ensures { IfOk result (λ fields.
+        fields ≡ show_fields client clock (data_of doc.now) (data_of others.now) owed) }
 {
     let fields = clock_and_doc(alloc, Val::Int(clock), doc)?;
     let fields = with(alloc, fields, "others", others.copy(alloc)?)?;
@@ -109,15 +106,29 @@ fn clock_and_doc(alloc: Global, clock: Val, doc: &Val) -> Mem<Fields>
     with(alloc, fields, "doc", doc.copy(alloc)?)
 }
 
+fn from_fields(alloc: Global, session: u64, message: &ClientMessage) -> Mem<Fields>
+    ensures { IfOk result (λ fields. fields ≡ from_fields session message.now) }
+{
+    let fields = with(alloc, Fields::new(alloc), "from", number(session))?;
+    with(alloc, fields, "message", message.val(alloc)?)
+}
+
+fn to_fields(alloc: Global, session: u64, message: &ServerMessage) -> Mem<Fields>
+    ensures { IfOk result (λ fields. fields ≡ to_fields session message.now) }
+{
+    let fields = with(alloc, Fields::new(alloc), "message", message.val(alloc)?)?;
+    with(alloc, fields, "to", number(session))
+}
+
 fn ending_fields(alloc: Global, session: u64, reason: EndReason) -> Mem<Fields>
-    ensures { IfOk result (λ fields. Fits session → fields ≡ ending_fields session reason) }
+    ensures { IfOk result (λ fields. fields ≡ ending_fields session reason) }
 {
     let fields = with(alloc, Fields::new(alloc), "end", reason_val(alloc, reason)?)?;
     with(alloc, fields, "to", number(session))
 }
 
 fn fault_fields(alloc: Global, at: u64, name: &Text) -> Mem<Fields>
-    ensures { IfOk result (λ fields. Fits at → fields ≡ fault_fields at name.now) }
+    ensures { IfOk result (λ fields. fields ≡ fault_fields at name.now) }
 {
     let fields = with(alloc, Fields::new(alloc), "at", number(at))?;
     with(alloc, fields, "fault", Val::Text(name.copy(alloc)?))
@@ -130,8 +141,8 @@ fn reason_val(alloc: Global, reason: EndReason) -> Mem<Val>
     Ok(Val::Text(Text::of(alloc, reason_text(reason))?))
 }
 
-// The name of a reason.
-fn reason_text(reason: EndReason) -> &'static str
+/// The name of a reason. It takes no memory.
+pub fn reason_text(reason: EndReason) -> &'static str
     ensures { result.now ≡ reason_text reason }
 {
     match reason {
