@@ -1,92 +1,53 @@
--- What a recording writes, as a function of its bytes.
-use Rattle.std.specs.Prelude.{ℕ, ◌+◌, nat_lt, List, [], ◌∷◌, ◌++◌, length, Bool, true, false, if◌then◌else◌, Option, Some, None, Result, Ok, Err, slice_get}
-use Rattle.std.specs.Option.{option_map_or}
-use Rattle.rooms_val.specs.Data.{Data}
-use Rattle.rooms_val.specs.Json.{value_of}
-use Rattle.rooms_val.specs.declared.fault.ValFault.{ValFault}
-use Rattle.rooms.specs.Lines.{longest_line, is_blank, is_whole, recorded_lines}
-use Rattle.rooms.specs.Events.{is_header, event_of}
-use Rattle.first_model.specs.Histories.{document_of}
-use Rattle.first_model.specs.Worlds.{World, Client, empty_world, held, after_join, after_connect, after_edit, after_handle, after_send, after_deliver}
-use Rattle.rooms.specs.Clients.{completes, is_document, is_admitted}
-use Rattle.rooms.specs.Texts.{fault_line, show_line, end_line}
-use Rattle.rooms.specs.declared.fault.Fault.{Fault}
-use Rattle.rooms.specs.declared.fault.Fault.TheVariants.{Line, Step, Unended, TooMuch}
-use Rattle.rooms.specs.declared.recording.Event.{Event}
-use Rattle.rooms.specs.declared.recording.Event.TheVariants as event
+-- What a recording writes.
+use Rattle.std.specs.Prelude.{◌≡◌, ℕ, ◌+◌, List, [], ◌∷◌, ◌++◌, Bool, true, false, ◌⊎◌, None}
+use Rattle.recording_lines.specs.Lines.{is_whole, recorded_lines}
+use Rattle.rooms.specs.Taking.{Progress, Taken, refused, passed, ended, Takes}
+use Rattle.rooms.specs.Texts.{lines_text, fault_line, unended_text}
 
--- how far a recording was read: before its header, or in this world
-abbrev pub Progress : Type 0
-Progress = Option World
-
--- what becomes of a line: it is refused, or it writes some text and leaves this progress, or it writes some text and ends the recording
-pub data Taken : Type 0 where
-  refused : Fault → Taken
-  passed : List ℕ → Progress → Taken
-  ended : List ℕ → Taken
-
--- an event that makes a next world writes nothing; one that can't happen is refused
-abbrev pub moved : Option World → Taken
-moved None = refused Step
-moved (Some world) = passed [] (Some world)
-
--- what a client shows, where there is that client
-abbrev pub shown_by : World → ℕ → Client → Taken
-shown_by world number client = passed (show_line number client.reached (held is_admitted world.room.history client) (length client.owed)) (Some world)
-
-abbrev pub shown : World → ℕ → Taken
-shown world number = option_map_or (shown_by world number) (slice_get world.clients number) (refused Step)
-
-abbrev pub happened : World → Event → Taken
-happened world event.Client = moved (after_join world)
-happened world (event.Connect client) = moved (after_connect world client)
-happened world (event.Edit client diff) = moved (after_edit is_admitted completes world client diff)
-happened world (event.Handle session) = moved (after_handle is_document is_admitted world session)
-happened world (event.Send session) = moved (after_send world session)
-happened world (event.Deliver client) = moved (after_deliver world client)
-happened world (event.Show client) = shown world client
-happened world event.End = ended (end_line (length world.room.history) (document_of world.room.history))
-
-abbrev pub happened_if_any : World → Option Event → Taken
-happened_if_any world None = refused Line
-happened_if_any world (Some event) = happened world event
-
--- a line's value: the header at first, and events from then on
-abbrev pub taken_value : Progress → Data → Taken
-taken_value None d = if is_header d then passed [] (Some empty_world) else refused Line
-taken_value (Some world) d = happened_if_any world (event_of d)
-
-abbrev pub taken_if_read : Progress → Result Data ValFault → Taken
-taken_if_read progress (Err fault) = refused Line
-taken_if_read progress (Ok d) = taken_value progress d
-
--- a line is refused where it is too long, passed by where it is blank, and else taken by its value
-abbrev pub taken : Progress → List ℕ → Taken
-taken progress line =
-    if nat_lt longest_line (length line) then refused Line
-    else if is_blank line then passed [] progress
-    else taken_if_read progress (value_of line)
-
--- what lines write, and whether the recording ends among them
+-- what lines write, whether the recording ends among them, and how far they were read
 pub record Written : Type 0 where
   pub text : List ℕ
   pub is_ended : Bool
+  pub reached : Progress
 
--- the text of a line, and that of what follows it where anything does
-abbrev pub followed : ℕ → Taken → (Progress → Written) → Written
-followed at (refused fault) rest = record { text = fault_line at fault; is_ended = false }
-followed at (passed text progress) rest = record { text = text ++ (rest progress).text; is_ended = (rest progress).is_ended }
-followed at (ended text) rest = record { text = text; is_ended = true }
+-- how what is left to write begins with what becomes of a line: with a fault line or the last lines, and no more; or with lines, and what
+-- the rest writes after them
+abbrev pub Follows : ℕ → Progress → Taken → (Progress → Written → Type 0) → Written → Type 0
+Follows at progress (refused text) Rest w = w ≡ record { text = fault_line at text; is_ended = false; reached = progress }
+Follows at progress (passed lines next) Rest w =
+    (rest : Written) × Rest next rest × (w ≡ record { text = lines_text lines ++ rest.text; is_ended = rest.is_ended; reached = rest.reached })
+Follows at progress (ended lines next) Rest w = w ≡ record { text = lines_text lines; is_ended = true; reached = next }
 
--- what the lines from a number on write, where the fault at their end is this one
-abbrev pub written : Fault → Progress → ℕ → List (List ℕ) → Written
-written unended progress at [] = record { text = fault_line at unended; is_ended = false }
-written unended progress at (line ∷ lines) = followed at (taken progress line) (λ next. written unended next (at + 1) lines)
+-- what the lines from a number on write after this progress, where the fault at their end has this text
+abbrev pub Writes : Bool → List ℕ → Progress → ℕ → List (List ℕ) → Written → Type 0
+Writes trace unended progress at [] w = w ≡ record { text = fault_line at unended; is_ended = false; reached = progress }
+Writes trace unended progress at (line ∷ lines) w =
+    (taken : Taken) × Takes trace progress line taken
+    × Follows at progress taken (λ next rest. Writes trace unended next (at + 1) lines rest) w
 
--- the fault of a recording without an end: it stops, or goes on too long
-abbrev pub unended_fault : Bool → Fault
-unended_fault whole = if whole then Unended else TooMuch
+-- what a recording writes, with or without its messages
+abbrev pub Replays : Bool → List ℕ → Written → Type 0
+Replays trace recording w = Writes trace (unended_text (is_whole recording)) None 1 (recorded_lines recording) w
 
--- what a recording writes
-abbrev pub replay : List ℕ → Written
-replay recording = written (unended_fault (is_whole recording)) None 1 (recorded_lines recording)
+-- a text begins with the front
+abbrev pub IsFront : List ℕ → List ℕ → Type 0
+IsFront front text = (rest : List ℕ) × (text ≡ front ++ rest)
+
+-- a front of what is left to write, where it begins with what becomes of a line
+abbrev pub FollowsFront : ℕ → Taken → (Progress → List ℕ → Type 0) → List ℕ → Type 0
+FollowsFront at (refused text) Rest front = IsFront front (fault_line at text)
+FollowsFront at (passed lines next) Rest front =
+    IsFront front (lines_text lines) ⊎ ((rest : List ℕ) × Rest next rest × (front ≡ lines_text lines ++ rest))
+FollowsFront at (ended lines next) Rest front = IsFront front (lines_text lines)
+
+-- a front of what the lines from a number on write; the lines behind it need not be looked at
+abbrev pub WritesFront : Bool → List ℕ → Progress → ℕ → List (List ℕ) → List ℕ → Type 0
+WritesFront trace unended progress at [] front = IsFront front (fault_line at unended)
+WritesFront trace unended progress at (line ∷ lines) front =
+    (front ≡ [])
+    ⊎ ((taken : Taken) × Takes trace progress line taken
+    × FollowsFront at taken (λ next rest. WritesFront trace unended next (at + 1) lines rest) front)
+
+-- a front of what a recording writes
+abbrev pub ReplaysFront : Bool → List ℕ → List ℕ → Type 0
+ReplaysFront trace recording front = WritesFront trace (unended_text (is_whole recording)) None 1 (recorded_lines recording) front

@@ -1,17 +1,18 @@
 -- How a run ends, and what it leaves in its sink.
-use Rattle.std.specs.Prelude.{◌≡◌, ℕ, ◌⊎◌, List, ◌++◌, true, false, ⊤, Option, Some, None, Result, Ok, Err, if◌then◌else◌}
+use Rattle.std.specs.Prelude.{◌≡◌, ◌≤◌, ℕ, ◌⊎◌, List, length, Bool, true, ⊤, Option, Some, None, Result, Ok, Err, if◌then◌else◌}
+use Rattle.std.specs.Io.KnownBytes.{Consumes}
+use Rattle.recording_lines.specs.declared.fault.ReadFault.{ReadFault}
+use Rattle.recording_lines.specs.declared.fault.ReadFault.TheVariants as read
 use Rattle.room_link.specs.Held.{Extends}
-use Rattle.rooms.specs.Replay.{Written, replay}
+use Rattle.rooms.specs.Replay.{Written, Replays, ReplaysFront}
+use Rattle.rooms.specs.Replies.{Reads}
+use Rattle.rooms.specs.declared.job.Job.{Job}
+use Rattle.rooms.specs.declared.job.Job.TheVariants.{Replay}
 use Rattle.rooms.specs.declared.play.End.{End}
 use Rattle.rooms.specs.declared.play.End.TheVariants.{Done, Refused}
 use Rattle.rooms.specs.declared.play.Stop.{Stop}
 use Rattle.rooms.specs.declared.play.Stop.TheVariants.{SourceFailed, SinkFailed, OutOfMemory}
-use Rattle.rooms.specs.declared.reading.ReadFault.{ReadFault}
-use Rattle.rooms.specs.declared.reading.ReadFault.TheVariants as read
-
-abbrev pub stop_of : ReadFault → Stop
-stop_of read.Failed = SourceFailed
-stop_of read.OutOfMemory = OutOfMemory
+use Rattle.sync_world.specs.declared.world.World.{World}
 
 -- the status with which the program ends
 abbrev pub status_code : Result End Stop → ℕ
@@ -21,35 +22,49 @@ status_code (Err SourceFailed) = 4
 status_code (Err SinkFailed) = 5
 status_code (Err OutOfMemory) = 6
 
--- the sink holds what it held, followed by a front of the text
-abbrev pub HoldsFront : List ℕ → Option (List ℕ) → Option (List ℕ) → Type 0
-HoldsFront text old new = (front rest : List ℕ) × (text ≡ front ++ rest) × Extends old new front
-
--- what lines write stands in the sink, and whether they end the recording is told; or a front of it stands there
-abbrev pub Finishes : Written → Result End Stop → Option (List ℕ) → Option (List ℕ) → Type 0
-Finishes lines (Ok Done) old new = (lines.is_ended ≡ true) × Extends old new lines.text
-Finishes lines (Ok Refused) old new = (lines.is_ended ≡ false) × Extends old new lines.text
-Finishes lines (Err e) old new = HoldsFront lines.text old new
-
--- the same of the recording that the source held, where it tells it
-abbrev pub Leaves : Option (List ℕ) → Result End Stop → Option (List ℕ) → Option (List ℕ) → Type 0
-Leaves None result old new = ⊤
-Leaves (Some recording) result old new = Finishes (replay recording) result old new
+-- the statuses of a replay
+abbrev pub IsReplayStatus : ℕ → Type 0
+IsReplayStatus status = (status ≡ 0) ⊎ (status ≡ 3) ⊎ (status ≡ 4) ⊎ (status ≡ 5) ⊎ (status ≡ 6)
 
 -- the statuses with which the program ends
 abbrev pub IsStatus : ℕ → Type 0
 IsStatus status = (status ≡ 2) ⊎ (status ≡ 0) ⊎ (status ≡ 3) ⊎ (status ≡ 4) ⊎ (status ≡ 5) ⊎ (status ≡ 6)
 
--- the status of a recording that is read whole: 0 where it is read to its end, 3 where it is refused
-abbrev pub status_of : List ℕ → ℕ
-status_of recording = if (replay recording).is_ended then 0 else 3
+-- the status of a recording that is read whole: 0 where it is read to its `end` line, 3 where it is refused
+abbrev pub status_of : Written → ℕ
+status_of w = if w.is_ended then 0 else 3
 
--- where the source tells the recording that it held, the status is the recording's, and its text is written
-abbrev pub Replays : Option (List ℕ) → ℕ → Option (List ℕ) → Option (List ℕ) → Type 0
-Replays None status old new = ⊤
-Replays (Some recording) status old new = (status ≡ status_of recording) × Extends old new (replay recording).text
+-- where the source tells the recording that it held: what the recording writes stands in the sink behind what that held, and the status is
+-- the recording's; the world stands for the one that the recording leads to
+abbrev pub WritesAll : Bool → Option (List ℕ) → ℕ → Option World → Option (List ℕ) → Option (List ℕ) → Type 0
+WritesAll trace None status world old new = ⊤
+WritesAll trace (Some recording) status world old new =
+    (w : Written) × Replays trace recording w × (status ≡ status_of w) × Reads w.reached world × Extends old new w.text
 
--- where the source tells the recording that it held, a front of its text is written
-abbrev pub ReplaysFront : Option (List ℕ) → Option (List ℕ) → Option (List ℕ) → Type 0
-ReplaysFront None old new = ⊤
-ReplaysFront (Some recording) old new = HoldsFront (replay recording).text old new
+-- the same, of the sink alone
+abbrev pub Prints : Bool → Option (List ℕ) → ℕ → Option (List ℕ) → Option (List ℕ) → Type 0
+Prints trace None status old new = ⊤
+Prints trace (Some recording) status old new = (w : Written) × Replays trace recording w × (status ≡ status_of w) × Extends old new w.text
+
+-- where the source tells the recording that it held: a front of what the recording writes stands there
+abbrev pub PrintsFront : Bool → Option (List ℕ) → Option (List ℕ) → Option (List ℕ) → Type 0
+PrintsFront trace None old new = ⊤
+PrintsFront trace (Some recording) old new = (front : List ℕ) × ReplaysFront trace recording front × Extends old new front
+
+-- how a recording that is taken line by line leaves sink and world
+abbrev pub Leaves : Bool → Option (List ℕ) → Result End Stop → Option World → Option (List ℕ) → Option (List ℕ) → Type 0
+Leaves trace left (Ok end) world old new = WritesAll trace left (status_code (Ok end)) world old new
+Leaves trace left (Err stop) world old new = PrintsFront trace left old new
+
+-- where a source tells what is left, that was a front of so many bytes at most, followed by what is left now
+abbrev pub TakesFront : ℕ → Option (List ℕ) → Option (List ℕ) → Type 0
+TakesFront most old new = (front : List ℕ) × (length front ≤ most) × Consumes old new front
+
+abbrev pub stop_of : ReadFault → Stop
+stop_of read.Failed = SourceFailed
+stop_of read.OutOfMemory = OutOfMemory
+
+-- the words ask for messages to be printed too
+abbrev pub is_traced : Option Job → Bool
+is_traced None = true
+is_traced (Some (Replay trace)) = trace

@@ -1,34 +1,24 @@
--- The lines that a replay writes.
-use Rattle.std.specs.Prelude.{ℕ, ℤ, pos, List, [], ◌∷◌, ◌++◌, true, codes}
-use Rattle.rooms_val.specs.Data.{Pairs, boolean, whole, text, map, members_of, no_members}
+-- The text that lines are written as.
+use Rattle.std.specs.Prelude.{ℕ, List, [], ◌∷◌, ◌++◌, Bool, codes, if◌then◌else◌}
+use Rattle.rooms_val.specs.Data.{map, members_of}
 use Rattle.rooms_val.specs.Json.{text_of}
-use Rattle.rooms.specs.Lines.{newline}
-use Rattle.rooms.specs.declared.fault.Fault.{Fault}
-use Rattle.rooms.specs.declared.fault.Fault.TheVariants.{Line, Step, Unended, TooMuch}
+use Rattle.rec_format.specs.Outs.{line_text, fault_fields}
+use Rattle.recording_lines.specs.Lines.{newline}
+use Rattle.room_model.specs.declared.line.OutLine.{OutLine}
 
--- the compact text of a map, and a newline
-abbrev pub line_of : Pairs → List ℕ
-line_of ps = text_of (map (members_of ps)) ++ newline ∷ []
+-- the text of a line, with its newline
+abbrev pub written_line : List ℕ → List ℕ
+written_line text = text ++ newline ∷ []
 
-abbrev pub fault_name : Fault → List ℕ
-fault_name Line = codes "Line"
-fault_name Step = codes "Step"
-fault_name Unended = codes "Unended"
-fault_name TooMuch = codes "TooMuch"
+-- the text of printed lines
+abbrev pub lines_text : List OutLine → List ℕ
+lines_text [] = []
+lines_text (line ∷ lines) = written_line (line_text line) ++ lines_text lines
 
 -- where a recording is refused, by the number of the line, and why
-unfoldable pub fault_line : ℕ → Fault → List ℕ
-fault_line at fault = line_of ((codes "at", whole (pos at)) ∷ (codes "fault", text (fault_name fault)) ∷ [])
+abbrev pub fault_line : ℕ → List ℕ → List ℕ
+fault_line at fault = written_line (text_of (map (members_of (fault_fields at fault))))
 
--- what a client shows: the clock that it has reached, what it holds, nobody else, and how many edits it owes
-unfoldable pub show_line : ℕ → ℤ → Pairs → ℕ → List ℕ
-show_line client reached document owed = line_of (
-    (codes "clock", whole reached) ∷ (codes "doc", map (members_of document)) ∷ (codes "others", map no_members)
-    ∷ (codes "owed", whole (pos owed)) ∷ (codes "show", whole (pos client)) ∷ []
-    )
-
--- what the room holds at the end, and its clock
-unfoldable pub end_line : ℕ → Pairs → List ℕ
-end_line clock document = line_of (
-    (codes "clock", whole (pos clock)) ∷ (codes "doc", map (members_of document)) ∷ (codes "end", boolean true) ∷ (codes "presence", map no_members) ∷ []
-    )
+-- why a recording without an `end` line is refused: it stops, or it goes on too long
+abbrev pub unended_text : Bool → List ℕ
+unended_text whole = if whole then codes "Unended" else codes "TooMuch"

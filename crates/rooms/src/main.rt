@@ -1,30 +1,19 @@
 //! The program `rooms`: it replays recordings of clients and a room.
 //!
-//! `run` is the top call; its clauses say what is written, and when each status comes. A recording's lines are taken one
-//! by one (`lines`, `recording`, `replay`), happen to a room and its client (`world`, `room`, `client`), and write lines of their own
-//! (`texts`). What they write is defined in `specs/`, as a function of the recording's bytes alone.
+//! `run` is the top call; its clauses say what is written, and when each status comes. A recording's
+//! lines are read one by one (`recording_lines`) and taken (`replay`): as the header, or as an event
+//! of `rec_format` that happens in a `World` of `sync_world`. What a line prints is written (`play`,
+//! `texts`, `writing`) before the source is read on. What a recording writes is defined in `specs/`.
 #![tactic(auto)]
 
-mod client;
-mod document;
-mod fault;
-mod fields;
-mod held;
 mod job;
-mod lines;
 mod play;
-mod reading;
-mod recording;
 mod replay;
-mod room;
-mod rules;
 mod run;
-mod stored;
 #[cfg(test)]
 mod tests;
 mod texts;
 mod words;
-mod world;
 mod writing;
 
 ghost use Rattle.std.specs.Prelude.{◌≡◌, ◌<◌, ◌↔◌, ◌⊎◌, string_bytes, map, IfOk, OnOk, IfSome, MatchOption, None};
@@ -33,7 +22,7 @@ ghost use Rattle.rooms.specs.Jobs.{job_named};
 ghost use Rattle.rooms.specs.Runs.{IsStatus};
 ghost use Rattle.rooms.specs.Words.{text_asked};
 
-use crate::words::{HELP, VERSION, asked, tell_usage, words_of};
+use crate::words::{HELP, VERSION, asked, tell, words_of};
 use room_link::standard::{StandardInput, StandardOutput};
 use rooms_val::Steps;
 use std::io;
@@ -52,7 +41,7 @@ fn main(rt: HostRuntime) -> io::Result<ExitCode> {
             return Err(error);
         },
     };
-    tell_usage(status, &mut rt.stderr())?;
+    tell(status, &mut rt.stderr())?;
     Ok(ExitCode::from(status))
 }
 

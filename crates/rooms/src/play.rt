@@ -1,29 +1,28 @@
 //! A recording, replayed from its source to its sink.
-ghost use Rattle.std.specs.Prelude.{◌≡◌, ◌<◌, ◌≤◌, ◌^◌, length, IfOk, IsErrOf, Option, None};
-ghost use Rattle.rooms.specs.Replay.{Taken, Progress, Written, written, followed, unended_fault};
-ghost use Rattle.rooms.specs.Lines.{lines_of, most_bytes};
-ghost use Rattle.rooms.specs.Replies.{Answers, Begins};
-ghost use Rattle.rooms.specs.Reading.{TakesFront};
-ghost use Rattle.rooms.specs.Runs.{Finishes, Leaves, status_code};
-ghost use Rattle.rooms.specs.declared.world.World.{World};
+ghost use Rattle.std.specs.Prelude.{◌≡◌, ◌<◌, ◌≤◌, ◌⊎◌, List, ℕ, IfOk, OnOk, OnErr, IsErrOf, None};
+ghost use Rattle.recording_lines.specs.Lines.{most_bytes};
+ghost use Rattle.recording_lines.specs.Reading.{budget, to_come, TakesUnread};
+ghost use Rattle.rooms.specs.Texts.{unended_text};
+ghost use Rattle.rooms.specs.Taking.{Progress};
+ghost use Rattle.rooms.specs.Replay.{IsFront};
+ghost use Rattle.rooms.specs.Replies.{Reads, reply_text, reply_end};
+ghost use Rattle.rooms.specs.Proceeding.{Proceeds, IfGoesOn};
+ghost use Rattle.rooms.specs.Runs.{Leaves, WritesAll, PrintsFront, TakesFront, IsReplayStatus, status_code};
+ghost use Rattle.room_link.specs.Held.{Extends};
 ghost use Rattle.rooms.specs.declared.play.Stop.TheVariants as stop;
 
-use crate::fault::Fault;
-use crate::lines::next_line;
-use crate::reading::{ReadFault, read_up_to};
-use crate::replay::Replay;
+use crate::replay::{Replay, Reply};
 use crate::texts;
-use crate::world::Reply;
-use crate::writing::write_all;
+use crate::writing::{write_all, write_lines};
+use recording_lines::fault::ReadFault;
+use recording_lines::line_reader::{LineReader, Next};
 use room_link::Failed;
 use room_link::sink::Sink;
 use room_link::source::Source;
-use rooms_val::{Mem, OutOfMemory, Steps};
-use std::alloc::Global;
+use rooms_val::{Mem, OutOfMemory, Steps, Text};
+use std::alloc::{AllocError, Global};
 use std::sync::ledger::Ledger;
-
-/// How many bytes of a recording are looked at.
-const MOST_BYTES: usize = 1 << 30;
+use sync_world::World;
 
 /// How a recording ends.
 #[derive(Clone, Copy, Debug, PartialEq, Eq)]
@@ -61,6 +60,14 @@ impl From<OutOfMemory> for Stop {
     }
 }
 
+impl From<AllocError> for Stop {
+    ghost from_gives = { λ _ e. e ≡ stop.OutOfMemory };
+
+    fn from(_refused: AllocError) -> Stop {
+        Stop::OutOfMemory
+    }
+}
+
 impl From<ReadFault> for Stop {
     ghost use Rattle.rooms.specs.Runs.{stop_of};
 
@@ -74,11 +81,63 @@ impl From<ReadFault> for Stop {
     }
 }
 
-/// The status with which the program ends.
-pub(crate) fn status(ending: Result<End, Stop>) -> u8
-    ensures { result ≡ status_code ending }
+/// What a replay ends with.
+#[derive(Drop)]
+pub struct Replayed {
+    /// The status: 0, 3, 4, 5 or 6.
+    pub status: u8,
+    /// The world after the events that were taken; there on status 0 or 3, where the header was
+    /// read.
+    pub world: Option<World>,
+}
+
+/// Replays the recording that the source holds, of which it looks at 2^30 bytes at most, and writes
+/// what it prints; with `trace` the messages too. Each event happens before the source is read on.
+/// The status is 0 where the recording was read to its `end` line, 3 where it is refused, 4 where a
+/// read failed, 5 where a write failed, and 6 where memory was refused. It costs the recording and
+/// its events, and the memory of its world, one line and a buffer of 65,536 bytes.
+pub fn replay_job<S: Source, K: Sink, L: Ledger>(
+    alloc: Global,
+    trace: bool,
+    source: &mut S,
+    sink: &mut K,
+    steps: &mut Steps<L>,
+) -> Replayed
+    ensures known { IsReplayStatus result.status }
+
+    // On 0 and 3 what the recording writes is written, the status is the recording's, and the world
+    // stands for the one that the recording leads to.
+    ensures done { (result.status ≡ 0) ⊎ (result.status ≡ 3)
+        → WritesAll trace (S.left source.old) result.status result.world
+        (K.held sink.old) (K.held sink.new) }
+
+    // On 4, 5 and 6 a front of it is written.
+    ensures stopped { (result.status ≡ 4) ⊎ (result.status ≡ 5) ⊎ (result.status ≡ 6)
+        → PrintsFront trace (S.left source.old) (K.held sink.old) (K.held sink.new) }
+    ensures no_world { (result.status ≡ 4) ⊎ (result.status ≡ 5) ⊎ (result.status ≡ 6)
+        → result.world ≡ None }
+    ensures reads { TakesFront most_bytes (S.left source.old) (S.left source.new) }
+    ensures source_failed { result.status ≡ 4 → S.faults source.old < S.faults source.new }
+    ensures sink_failed { result.status ≡ 5 → K.faults sink.old < K.faults sink.new }
 {
-    match ending {
+    let mut replay = Replay::new(trace);
+    match play(alloc, &mut replay, source, sink, steps) {
+        Ok(end) => Replayed {
+            status: status(Ok(end)),
+            world: replay.world,
+        },
+        Err(stop) => Replayed {
+            status: status(Err(stop)),
+            world: None,
+        },
+    }
+}
+
+// The status with which the program ends.
+fn status(end: Result<End, Stop>) -> u8
+    ensures { result ≡ status_code end }
+{
+    match end {
         Ok(End::Done) => 0,
         Ok(End::Refused) => 3,
         Err(Stop::SourceFailed) => 4,
@@ -87,77 +146,98 @@ pub(crate) fn status(ending: Result<End, Stop>) -> u8
     }
 }
 
-/// Reads the recording that the source holds, to its end or to 2^30 bytes, and writes what it shows. `SourceFailed` comes
-/// only where a read failed, `SinkFailed` only where a write did, and else `OutOfMemory`.
-pub fn replay_job<S: Source, K: Sink, L: Ledger>(
+// Takes the recording line by line, and writes what each line prints before it reads on.
+fn play<S: Source, K: Sink, L: Ledger>(
     alloc: Global,
+    replay: &mut Replay,
     source: &mut S,
     sink: &mut K,
     steps: &mut Steps<L>,
 ) -> Result<End, Stop>
-    ensures leaves { Leaves (S.left source.old) result (K.held sink.old) (K.held sink.new) }
+    requires { replay.old.world ≡ None }
+    ensures leaves { Leaves replay.old.trace (S.left source.old) result replay.new.world
+        (K.held sink.old) (K.held sink.new) }
     ensures reads { TakesFront most_bytes (S.left source.old) (S.left source.new) }
-    ensures source_failed { IsErrOf result stop.SourceFailed → S.faults source.old < S.faults source.new }
+    ensures source_failed { IsErrOf result stop.SourceFailed
+        → S.faults source.old < S.faults source.new }
     ensures sink_failed { IsErrOf result stop.SinkFailed → K.faults sink.old < K.faults sink.new }
 {
-    let bytes = read_up_to(alloc, source, MOST_BYTES)?;
-    play(alloc, &bytes, bytes.len() < MOST_BYTES, sink, steps)
-}
-
-/// Writes what the lines show of a recording whose front this is, or the whole.
-fn play<K: Sink, L: Ledger>(
-    alloc: Global,
-    bytes: &[u8],
-    whole: bool,
-    sink: &mut K,
-    steps: &mut Steps<L>,
-) -> Result<End, Stop>
-    requires { length bytes.now ≤ 2 ^ 30 }
-    ensures finishes { Finishes (written (unended_fault whole) None 1 (lines_of whole bytes.now)) result (K.held sink.old) (K.held sink.new) }
-    ensures sink_failed { IsErrOf result stop.SinkFailed → K.faults sink.old < K.faults sink.new }
-    ensures no_source { IsErrOf result stop.SourceFailed → ⊥ }
-{
-    let mut replay = Replay::new();
-    let mut rest = bytes;
+    let mut reader = LineReader::new(alloc)?;
     let mut at = 1u64;
-    'lines: while let Some((line, after)) = next_line(rest, whole) {
-        let reply = replay.take_line(alloc, line, steps)?;
-        let (text, end) = outcome(alloc, at, reply)?;
-        write_all(sink, &text)?;
+    'lines: loop {
+        let reply = next_reply(alloc, &mut reader, replay, source, steps)?;
+        let end = end_of(&reply);
+        write_reply(alloc, sink, at, reply)?;
         if let Some(end) = end {
             return Ok(end);
         }
-        rest = after;
         at += 1;
     }
-    let text = texts::fault_line(alloc, at, unended(whole))?;
-    write_all(sink, &text)?;
-    Ok(End::Refused)
 }
 
-/// The text that a line writes, and how the recording ends with it, if it does.
-fn outcome(alloc: Global, at: u64, reply: Reply) -> Mem<(Vec<u8>, Option<End>)>
-    requires { at < 2 ^ 63 }
-    ensures { IfOk result (λ written. (line : Taken) (world : Option World) (rest : Progress → Written)
-        → Answers line reply world → Begins (followed at line rest) written.0.items written.1 world rest) }
+// What the next line makes of the recording; where no line is left, why it is refused.
+fn next_reply<S: Source, L: Ledger>(
+    alloc: Global,
+    reader: &mut LineReader,
+    replay: &mut Replay,
+    source: &mut S,
+    steps: &mut Steps<L>,
+) -> Result<Reply, Stop>
+    ensures next { IfOk result (λ reply. (progress : Progress)
+        → Reads progress replay.old.world
+        → Proceeds replay.old.trace progress (budget reader.old)
+        (to_come reader.old (S.left source.old)) (budget reader.new)
+        (to_come reader.new (S.left source.new)) reply replay.new.world) }
+    ensures shorter { IfOk result (λ reply.
+        IfGoesOn reply (budget reader.new < budget reader.old)) }
+    ensures trace { replay.new.trace ≡ replay.old.trace }
+    ensures taken { TakesUnread reader.old.unread reader.new.unread
+        (S.left source.old) (S.left source.new) }
+    ensures faults_stay { S.faults source.old ≤ S.faults source.new }
+    ensures source_failed { IsErrOf result stop.SourceFailed
+        → S.faults source.old < S.faults source.new }
+    ensures no_sink { IsErrOf result stop.SinkFailed → ⊥ }
+{
+    match reader.next_line(source)? {
+        Next::Line => Ok(replay.take_line(alloc, reader.line(), steps)?),
+        Next::TooLong => Ok(Reply::Refused(Text::of(alloc, "LineTooLong")?)),
+        Next::End { whole } => Ok(Reply::Refused(unended(alloc, whole)?)),
+    }
+}
+
+// Why a recording without an `end` line is refused.
+fn unended(alloc: Global, whole: bool) -> Mem<Text>
+    ensures { IfOk result (λ text. text ≡ unended_text whole) }
+{
+    Text::of(alloc, if whole { "Unended" } else { "TooMuch" })
+}
+
+// How the recording ends with a line, if it does.
+fn end_of(reply: &Reply) -> Option<End>
+    ensures { result ≡ reply_end reply.now }
+{
+    match reply {
+        Reply::Refused(_) => Some(End::Refused),
+        Reply::Wrote(_) => None,
+        Reply::Ended(_) => Some(End::Done),
+    }
+}
+
+// Writes what a line prints, or why it is refused.
+fn write_reply<K: Sink>(alloc: Global, sink: &mut K, at: u64, reply: Reply) -> Result<(), Stop>
+    ensures ok { OnOk result (Extends (K.held sink.old) (K.held sink.new) (reply_text at reply)) }
+    ensures err { OnErr result ((front : List ℕ) × IsFront front (reply_text at reply)
+        × Extends (K.held sink.old) (K.held sink.new) front) }
+    ensures faults_stay { K.faults sink.old ≤ K.faults sink.new }
+    ensures sink_failed { IsErrOf result stop.SinkFailed → K.faults sink.old < K.faults sink.new }
+    ensures no_source { IsErrOf result stop.SourceFailed → ⊥ }
 {
     match reply {
         Reply::Refused(fault) => {
             let text = texts::fault_line(alloc, at, fault)?;
-            Ok((text, Some(End::Refused)))
+            Ok(write_all(sink, &text)?)
         }
-        Reply::Wrote(text) => Ok((text, None)),
-        Reply::Ended(text) => Ok((text, Some(End::Done))),
-    }
-}
-
-/// Why a recording without an end is refused.
-fn unended(whole: bool) -> Fault
-    ensures { result ≡ unended_fault whole }
-{
-    if whole {
-        Fault::Unended
-    } else {
-        Fault::TooMuch
+        Reply::Wrote(lines) => write_lines(alloc, sink, &lines),
+        Reply::Ended(lines) => write_lines(alloc, sink, &lines),
     }
 }

@@ -1,82 +1,140 @@
 //! A recording that is taken line by line.
-ghost use Rattle.std.specs.Prelude.{◌≡◌, None, IfOk};
-ghost use Rattle.rooms_val.specs.View.{data_of};
-ghost use Rattle.rooms.specs.Replay.{Progress, taken, taken_value};
-ghost use Rattle.rooms.specs.Replies.{Answers, Reads};
+ghost use Rattle.std.specs.Prelude.{◌≡◌, None, Some, IfOk};
+ghost use Rattle.room_model.specs.Schemas.{Schemas};
+ghost use Rattle.room_model.specs.Worlds as model;
+ghost use Rattle.side_effects.specs.declared.fault.EditFault.{EditFault};
+ghost use Rattle.sync_world.specs.Playing.{IsPlayed};
+ghost use Rattle.sync_world.specs.Standing.{Stands};
+ghost use Rattle.rooms.specs.Taking.{Progress, is_end, is_passed_by};
+ghost use Rattle.rooms.specs.Replies.{Reads, Becomes, BecomesHeader, BecomesEvent, BecomesOf};
 
-use crate::fault::Fault;
-use crate::lines::{LONGEST_LINE, is_blank};
-use crate::recording::{event_of, is_header};
-use crate::world::{Reply, World};
-use rooms_val::{Mem, OutOfMemory, Steps, Val, ValFault};
+use fault_texts::{line_fault_text, step_fault_text};
+use rec_format::read::LONGEST_LINE;
+use rec_format::{Event, OutLine, read_header, read_line};
+use recording_lines::lines::is_blank;
+use rooms_val::{Mem, Steps, Text};
 use std::alloc::Global;
 use std::sync::ledger::Ledger;
+use sync_world::World;
 
-/// How far a recording was read: before its header there is no world.
+/// What a line makes of a recording.
+#[derive(Drop)]
+pub enum Reply {
+    /// The line is refused, for the cause that this text names.
+    Refused(Text),
+    /// The line prints these lines.
+    Wrote(Vec<OutLine>),
+    /// The line prints these lines, and the recording ends with it.
+    Ended(Vec<OutLine>),
+}
+
+/// How far a recording was read.
 #[derive(Drop)]
 pub struct Replay {
-    world: Option<World>,
+    // Whether the messages are printed too.
+    trace: bool,
+    // The world of the header and of the events since; none before the header.
+    pub(crate) world: Option<World>,
 }
 
 impl Replay {
-    /// Nothing was read.
-    pub fn new() -> Replay
-        ensures { Reads None result.world }
+    /// Nothing was read. With `trace` the messages are printed too.
+    pub fn new(trace: bool) -> Replay
+        ensures { result ≡ record { trace = trace; world = None } }
     {
-        Replay { world: None }
+        Replay { trace, world: None }
     }
 
-    /// Takes a line without its newline. The reply says what it writes, why it is refused, or that the recording is at its
-    /// end.
+    /// Takes a line without its newline. The reply says what it prints, why it is refused, or that
+    /// the recording ends with it. It costs the line and its event.
     pub fn take_line<L: Ledger>(
         &mut self,
         alloc: Global,
         line: &[u8],
         steps: &mut Steps<L>,
     ) -> Mem<Reply>
-        ensures { IfOk result (λ reply. (progress : Progress) → Reads progress self.old.world
-            → Answers (taken progress line.now) reply self.new.world) }
+        ensures taken { IfOk result (λ reply. (progress : Progress)
+            → Reads progress self.old.world
+            → Becomes self.old.trace progress line.now reply self.new.world) }
+        ensures trace { self.new.trace ≡ self.old.trace }
     {
-        if line.len() > LONGEST_LINE {
-            return Ok(Reply::Refused(Fault::Line));
-        }
-        if is_blank(line) {
+        if is_passed_by(line) {
             return Ok(Reply::Wrote(Vec::new(alloc)));
         }
-        match Val::read(alloc, line) {
-            Ok(val) => self.take_value(alloc, &val, steps),
-            Err(ValFault::OutOfMemory) => Err(OutOfMemory),
-            Err(_) => Ok(Reply::Refused(Fault::Line)),
-        }
-    }
-
-    fn take_value<L: Ledger>(
-        &mut self,
-        alloc: Global,
-        val: &Val,
-        steps: &mut Steps<L>,
-    ) -> Mem<Reply>
-        ensures { IfOk result (λ reply. (progress : Progress) → Reads progress self.old.world
-            → Answers (taken_value progress (data_of val.now)) reply self.new.world) }
-    {
         match &mut self.world {
-            None => self.take_header(alloc, val),
-            Some(world) => match event_of(alloc, val)? {
-                Some(event) => world.step(alloc, event, steps),
-                None => Ok(Reply::Refused(Fault::Line)),
-            },
+            None => self.take_header(alloc, line),
+            Some(world) => take_event(world, alloc, self.trace, line, steps),
         }
     }
 
-    fn take_header(&mut self, alloc: Global, val: &Val) -> Mem<Reply>
+    // Takes the first line that isn't passed by.
+    fn take_header(&mut self, alloc: Global, line: &[u8]) -> Mem<Reply>
         requires { self.old.world ≡ None }
-        ensures { IfOk result (λ reply. Answers (taken_value None (data_of val.now)) reply self.new.world) }
+        ensures taken { IfOk result (λ reply. BecomesHeader line.now reply self.new.world) }
+        ensures trace { self.new.trace ≡ self.old.trace }
     {
-        if is_header(val) {
-            self.world = Some(World::new(alloc)?);
-            Ok(Reply::Wrote(Vec::new(alloc)))
-        } else {
-            Ok(Reply::Refused(Fault::Line))
+        match read_header(alloc, line) {
+            Ok(header) => {
+                self.world = Some(World::new(alloc, header.version)?);
+                Ok(Reply::Wrote(Vec::new(alloc)))
+            }
+            Err(fault) => Ok(Reply::Refused(line_fault_text(alloc, fault)?)),
         }
     }
+}
+
+// Whether a line is passed by: it is blank, and not too long.
+fn is_passed_by(line: &[u8]) -> bool
+    ensures { result ≡ is_passed_by line.now }
+{
+    line.len() <= LONGEST_LINE && is_blank(line)
+}
+
+// Takes a line behind the header.
+fn take_event<L: Ledger>(
+    world: &mut World,
+    alloc: Global,
+    trace: bool,
+    line: &[u8],
+    steps: &mut Steps<L>,
+) -> Mem<Reply>
+    ensures { IfOk result (λ reply. (schemas : Schemas EditFault) (model : model.World)
+        → Stands schemas model world.old
+        → BecomesEvent trace schemas model line.now reply (Some world.new)) }
+{
+    match read_line(alloc, line) {
+        Ok(event) => happen(world, alloc, trace, event, steps),
+        Err(fault) => Ok(Reply::Refused(line_fault_text(alloc, fault)?)),
+    }
+}
+
+// Lets an event happen in the world.
+fn happen<L: Ledger>(
+    world: &mut World,
+    alloc: Global,
+    trace: bool,
+    event: Event,
+    steps: &mut Steps<L>,
+) -> Mem<Reply>
+    requires { IsPlayed event }
+    ensures { IfOk result (λ reply. (schemas : Schemas EditFault) (model : model.World)
+        → Stands schemas model world.old
+        → BecomesOf trace schemas model event reply (Some world.new)) }
+{
+    let ends = is_end(&event);
+    match world.step(alloc, event, trace, steps) {
+        Ok(lines) => if ends {
+            Ok(Reply::Ended(lines))
+        } else {
+            Ok(Reply::Wrote(lines))
+        },
+        Err(fault) => Ok(Reply::Refused(step_fault_text(alloc, &fault)?)),
+    }
+}
+
+// Whether an event ends the recording.
+fn is_end(event: &Event) -> bool
+    ensures { result ≡ is_end event.now }
+{
+    matches!(event, Event::End)
 }

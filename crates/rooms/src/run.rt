@@ -1,12 +1,11 @@
 //! The top call.
 ghost use Rattle.std.specs.Prelude.{◌≡◌, ◌<◌, ◌↔◌, ◌⊎◌, string_bytes, map, None};
+ghost use Rattle.recording_lines.specs.Lines.{most_bytes};
 ghost use Rattle.rooms.specs.Jobs.{job_named};
-ghost use Rattle.rooms.specs.Lines.{most_bytes};
-ghost use Rattle.rooms.specs.Reading.{TakesFront};
-ghost use Rattle.rooms.specs.Runs.{IsStatus, Replays, ReplaysFront};
+ghost use Rattle.rooms.specs.Runs.{IsStatus, Prints, PrintsFront, TakesFront, is_traced};
 
-use crate::job::{Job, job_of};
-use crate::play::{replay_job, status};
+use crate::job::job_of;
+use crate::play::replay_job;
 use room_link::sink::Sink;
 use room_link::source::Source;
 use rooms_val::Steps;
@@ -16,9 +15,10 @@ use std::sync::ledger::Ledger;
 /// The status of words that are in no row of the usage.
 pub const USAGE: u8 = 2;
 
-/// Does what the words ask for, without the program's name, and answers the status with which the program ends: 0 where
-/// the job is done, 2 where the words ask for none, 3 where the recording is refused, 4 where the source failed, 5 where
-/// the sink failed, 6 where memory was refused.
+/// Does what the words ask for, without the program's name, and returns the status with which the
+/// program ends: 0 where the job is done, 2 where the words ask for none, 3 where the recording is
+/// refused, 4 where the source failed, 5 where the sink failed, 6 where memory was refused. It costs
+/// what the job does.
 pub fn run<S: Source, K: Sink, L: Ledger>(
     alloc: Global,
     words: &[String],
@@ -34,14 +34,16 @@ pub fn run<S: Source, K: Sink, L: Ledger>(
 
     // On 0 and 3 what the recording writes is written, and the status is the recording's.
     ensures done { (result ≡ 0) ⊎ (result ≡ 3)
-        → Replays (S.left source.old) result (K.held sink.old) (K.held sink.new) }
-
-    // On every status the source held a front of at most 2^30 bytes, followed by what it holds.
-    ensures reads { TakesFront most_bytes (S.left source.old) (S.left source.new) }
+        → Prints (is_traced (job_named (map string_bytes words.now))) (S.left source.old) result
+        (K.held sink.old) (K.held sink.new) }
 
     // On 4, 5 and 6 a front of it is written.
     ensures stopped { (result ≡ 4) ⊎ (result ≡ 5) ⊎ (result ≡ 6)
-        → ReplaysFront (S.left source.old) (K.held sink.old) (K.held sink.new) }
+        → PrintsFront (is_traced (job_named (map string_bytes words.now))) (S.left source.old)
+        (K.held sink.old) (K.held sink.new) }
+
+    // On every status the source held a front of at most 2^30 bytes, followed by what it holds.
+    ensures reads { TakesFront most_bytes (S.left source.old) (S.left source.new) }
 
     // 4 comes only where the source had a fault in this call, 5 only where the sink had one.
     ensures source_failed { result ≡ 4 → S.faults source.old < S.faults source.new }
@@ -49,6 +51,6 @@ pub fn run<S: Source, K: Sink, L: Ledger>(
 {
     match job_of(words) {
         None => USAGE,
-        Some(Job::Replay) => status(replay_job(alloc, source, sink, steps)),
+        Some(job) => replay_job(alloc, job.is_traced(), source, sink, steps).status,
     }
 }

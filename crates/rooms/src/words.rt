@@ -1,22 +1,23 @@
 //! The words of the command line, and what the program says of itself.
-ghost use Rattle.std.specs.Prelude.{◌≡◌, ◌≢◌, string_bytes, map, option_map, OnOk};
+ghost use Rattle.std.specs.Prelude.{◌≡◌, [], string_bytes, map, option_map, OnOk};
 ghost use Rattle.std.specs.Io.KnownBytes.{Appends};
 ghost use Rattle.rooms.specs.Words.{text_asked, text_of};
 
-use crate::run::USAGE;
 use std::io::Write;
 use std::{env, io};
 
 /// The rows of words that the program takes.
-const USAGE_LINE: &str = "usage: rooms replay\n";
+const USAGE_LINE: &str = "usage: rooms replay [--trace]\n";
 
 /// What each word means.
 pub(crate) const HELP: &str = "\
-usage: rooms replay
+usage: rooms replay [--trace]
 
-  replay     replays the recording on standard input: prints what its clients show, and what the room holds at its end
-  --help     prints this
-  --version  prints the program's name and version
+  replay           replays the recording on standard input, as it comes: prints what its clients show, and what the room
+                   holds at its end
+  replay --trace   prints the messages between the clients and the room too
+  --help           prints this
+  --version        prints the program's name and version
 ";
 
 /// The program's name and version.
@@ -51,13 +52,30 @@ fn text_of(word: &str) -> Option<&'static str>
     }
 }
 
-/// Says which words there are, where the status is that of words that ask for nothing.
-pub(crate) fn tell_usage<W: Write>(status: u8, errors: &mut W) -> io::Result<()>
-    ensures told { status ≡ 2 → OnOk result (Appends (W.contents errors.old) (W.contents errors.new) USAGE_LINE.now) }
-    ensures silent { status ≢ 2 → errors.new ≡ errors.old }
+/// What is told of a status on standard error; nothing of 0.
+fn message_of(status: u8) -> &'static str
+    ensures usage { status ≡ 2 → result.now ≡ USAGE_LINE.now }
+    ensures silent { status ≡ 0 → result.now ≡ [] }
 {
-    if status == USAGE {
-        errors.write_all(USAGE_LINE.as_bytes())?;
+    match status {
+        2 => USAGE_LINE,
+        3 => "rooms: the recording is refused; the last line printed says where and why\n",
+        4 => "rooms: standard input can't be read\n",
+        5 => "rooms: standard output can't be written\n",
+        6 => "rooms: out of memory\n",
+        _ => "",
+    }
+}
+
+/// Tells on standard error why the program ends with a status: for words that ask for nothing, which
+/// words there are.
+pub(crate) fn tell<W: Write>(status: u8, errors: &mut W) -> io::Result<()>
+    ensures told { status ≡ 2 → OnOk result (Appends (W.contents errors.old) (W.contents errors.new) USAGE_LINE.now) }
+    ensures silent { status ≡ 0 → errors.new ≡ errors.old }
+{
+    let message = message_of(status);
+    if !message.is_empty() {
+        errors.write_all(message.as_bytes())?;
     }
     Ok(())
 }

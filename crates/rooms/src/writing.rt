@@ -1,9 +1,16 @@
 //! Writing a whole text to a sink.
-ghost use Rattle.std.specs.Prelude.{◌≡◌, ℕ, ◌<◌, ◌≤◌, length, take, OnOk, OnErr};
+ghost use Rattle.std.specs.Prelude.{◌≡◌, ℕ, List, ◌<◌, ◌≤◌, length, take, OnOk, OnErr, IsErrOf};
 ghost use Rattle.room_link.specs.Held.{Extends};
+ghost use Rattle.rooms.specs.Texts.{lines_text};
+ghost use Rattle.rooms.specs.Replay.{IsFront};
+ghost use Rattle.rooms.specs.declared.play.Stop.TheVariants as stop;
 
+use crate::play::Stop;
+use crate::texts::written_line;
+use rec_format::OutLine;
 use room_link::Failed;
 use room_link::sink::Sink;
+use std::alloc::Global;
 
 /// Writes all of the bytes, by as many writes as the sink wants.
 ///
@@ -19,6 +26,31 @@ pub fn write_all<K: Sink>(sink: &mut K, bytes: &[u8]) -> Result<(), Failed>
     let mut at = 0;
     'writes: while at < bytes.len() {
         at += sink.write(&bytes[at..])?;
+    }
+    Ok(())
+}
+
+/// Writes lines one after the other, each by writes of its own.
+///
+/// # Errors
+///
+/// `SinkFailed` where a write failed, and `OutOfMemory` where a line's text doesn't fit; a front of
+/// the lines' text is written then.
+pub(crate) fn write_lines<K: Sink>(
+    alloc: Global,
+    sink: &mut K,
+    lines: &[OutLine],
+) -> Result<(), Stop>
+    ensures ok { OnOk result (Extends (K.held sink.old) (K.held sink.new) (lines_text lines.now)) }
+    ensures err { OnErr result ((front : List ℕ) × IsFront front (lines_text lines.now)
+        × Extends (K.held sink.old) (K.held sink.new) front) }
+    ensures faults_stay { K.faults sink.old ≤ K.faults sink.new }
+    ensures sink_failed { IsErrOf result stop.SinkFailed → K.faults sink.old < K.faults sink.new }
+    ensures no_source { IsErrOf result stop.SourceFailed → ⊥ }
+{
+    'lines: for line in lines {
+        let text = written_line(alloc, line)?;
+        write_all(sink, &text)?;
     }
     Ok(())
 }

@@ -1,26 +1,42 @@
-use Rattle.std.proofs.Common.{None, subst, refl, sym, ◌∙◌, ◌≤◌, ◌<◌, nat_lt}
-use Rattle.std.proofs.lemmas.Result.{err_from_is_err_and}
-use Rattle.std.specs.Io.KnownBytes.{Consumes, IsAtEnd}
-use Rattle.rooms.specs.Lines.{lines_of}
-use Rattle.rooms.specs.Replay.{written, unended_fault}
-use Rattle.rooms.specs.Runs.{Finishes}
-use Rattle.rooms.proofs.Recorded.{leaves_read, leaves_nothing}
+use Rattle.std.proofs.Common.{◌≡◌, ◌⊎◌, sym, ap, subst, ◌∙◌, inl, inr}
+use Rattle.rooms.specs.Runs.{IsReplayStatus, WritesAll, PrintsFront, Leaves, status_code}
+use Rattle.rooms.proofs.EndingLemmas.{read_status, stopped_status, read_is_not_stopped, stopped_is_not_read, source_failed, sink_failed}
 use Rattle.rooms.proofs.play.replay_job.Goals as goal
 
-pub returns-in_err-bytes-clause-leaves : goal.returns-in_err-bytes-clause-leaves
-returns-in_err-bytes-clause-leaves g c =
-    let p = err_from_is_err_and c.from_residual.result c.from_residual.ensures.1 in
-    rw p.1 (leaves_nothing (g.S.Source.left c.args.source.now) p.0 (g.K.Sink.held c.args.sink.now))
+pub returns-in-Ok-clause-known : goal.returns-in-Ok-clause-known
+returns-in-Ok-clause-known g c = subst IsReplayStatus (sym c.status.ensures) (read_status c.in-Ok.end)
 
-pub returns-clause-leaves : goal.returns-clause-leaves
-returns-clause-leaves g c =
+pub returns-in-Ok-clause-done : goal.returns-in-Ok-clause-done
+returns-in-Ok-clause-done g c = λ is.
+    let left = g.S.Source.left c.args.source.now in
     let held = g.K.Sink.held in
-    let left = g.S.Source.left in
-    let bytes = c.deref.result.now in
-    let read = c.in_ok-bytes.ensures in
-    let long = c.deref.ensures.len in
-    leaves_read (left c.args.source.now) (left c.read_up_to.new.source) 1073741824 bytes c.play.result (held c.args.sink.now) (held c.play.new.sink) refl
-    (subst (Consumes (left c.args.source.now) (left c.read_up_to.new.source)) (sym c.deref.ensures.value) read.bytes)
-    (subst (λ n. n ≤ 1073741824) (sym long) read.bound)
-    (subst (λ n. n < 1073741824 → IsAtEnd (left c.read_up_to.new.source)) (sym long) read.end)
-    (subst (λ n. Finishes (written (unended_fault (nat_lt n 1073741824)) None 1 (lines_of (nat_lt n 1073741824) bytes)) c.play.result (held c.args.sink.now) (held c.play.new.sink)) (c.len.ensures ∙ sym long) c.play.ensures.finishes)
+    let world = c.play.new.replay.world in
+    let leaves = subst (λ r. Leaves c.args.trace left r world (held c.args.sink.now) (held c.play.new.sink)) c.in-Ok.is
+    (subst (λ t. Leaves t left c.play.result world (held c.args.sink.now) (held c.play.new.sink)) (ap (λ r. r.trace) c.new-replay.ensures) c.play.ensures.leaves) in
+    subst (λ s. WritesAll c.args.trace left s world (held c.args.sink.now) (held c.play.new.sink)) (sym c.status.ensures) leaves
+
+pub returns-in-Ok-clause-stopped : goal.returns-in-Ok-clause-stopped
+returns-in-Ok-clause-stopped g c = λ is. absurd (read_is_not_stopped c.in-Ok.end (subst (λ s. (s ≡ 4) ⊎ (s ≡ 5) ⊎ (s ≡ 6)) c.status.ensures is))
+
+pub returns-in-Ok-clause-no_world : goal.returns-in-Ok-clause-no_world
+returns-in-Ok-clause-no_world g c = λ is. absurd (read_is_not_stopped c.in-Ok.end (subst (λ s. (s ≡ 4) ⊎ (s ≡ 5) ⊎ (s ≡ 6)) c.status.ensures is))
+
+pub returns-in-Ok-clause-source_failed : goal.returns-in-Ok-clause-source_failed
+returns-in-Ok-clause-source_failed g c = λ is. absurd (read_is_not_stopped c.in-Ok.end (inl (sym c.status.ensures ∙ is)))
+
+pub returns-in-Ok-clause-sink_failed : goal.returns-in-Ok-clause-sink_failed
+returns-in-Ok-clause-sink_failed g c = λ is. absurd (read_is_not_stopped c.in-Ok.end (inr (inl (sym c.status.ensures ∙ is))))
+
+pub returns-in-Err-clause-known : goal.returns-in-Err-clause-known
+returns-in-Err-clause-known g c = subst IsReplayStatus (sym c.status-in-Err.ensures) (stopped_status c.in-Err.stop)
+
+pub returns-in-Err-clause-done : goal.returns-in-Err-clause-done
+returns-in-Err-clause-done g c = λ is. absurd (stopped_is_not_read c.in-Err.stop (subst (λ s. (s ≡ 0) ⊎ (s ≡ 3)) c.status-in-Err.ensures is))
+
+pub returns-in-Err-clause-stopped : goal.returns-in-Err-clause-stopped
+returns-in-Err-clause-stopped g c = λ is.
+    let left = g.S.Source.left c.args.source.now in
+    let held = g.K.Sink.held in
+    let world = c.play.new.replay.world in
+    subst (λ r. Leaves c.args.trace left r world (held c.args.sink.now) (held c.play.new.sink)) c.in-Err.is
+    (subst (λ t. Leaves t left c.play.result world (held c.args.sink.now) (held c.play.new.sink)) (ap (λ r. r.trace) c.new-replay.ensures) c.play.ensures.leaves)

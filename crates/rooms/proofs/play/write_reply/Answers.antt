@@ -1,0 +1,15 @@
+use Rattle.std.proofs.Common.{◌≡◌, take, sym, ap, subst, ◌∙◌}
+use Rattle.std.proofs.lemmas.Result.{err_from_is_err_and}
+use Rattle.room_link.specs.Held.{Extends}
+use Rattle.rooms.specs.Replies.{reply_text}
+use Rattle.rooms.proofs.WritingLemmas.{first_bytes}
+use Rattle.rooms.proofs.play.write_reply.Goals as goal
+
+pub returns-in_err-write_all-in-Refused-clause-err : goal.returns-in_err-write_all-in-Refused-clause-err
+returns-in_err-write_all-in-Refused-clause-err g c =
+    let held = g.K.Sink.held in
+    let p = err_from_is_err_and c.from_residual-in_err-write_all-in-Refused.result c.from_residual-in_err-write_all-in-Refused.ensures.1 in
+    let took = c.in_err-write_all-in-Refused.ensures.front in
+    let text = reply_text c.args.at c.args.reply in
+    let is : c.deref.result.now ≡ text = c.deref.ensures.value ∙ c.in_ok-text-in-Refused.ensures ∙ ap (reply_text c.args.at) (sym c.in-Refused.is) in
+    rw p.1 (take took.0 text, first_bytes took.0 text, subst (λ t. Extends (held c.args.sink.now) (held c.write_all.new.sink) (take took.0 t)) is took.1)
