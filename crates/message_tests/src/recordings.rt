@@ -319,14 +319,9 @@ fn refuses_a_line_that_is_too_long(rt: HostRuntime) -> Result<(), Fail> {
 
 /// Asserts what a line is printed as.
 fn prints(rt: &impl Abort, alloc: Global, line: &OutLine, expected: &str) -> Result<(), Fail> {
-    match print_out(alloc, line)? {
-        Some(bytes) => {
-            let text = String::from_utf8(bytes)?;
-            assert_eq!(rt; text.as_str(), expected);
-            Ok(())
-        }
-        None => Err(Fail::from("a text was wanted")),
-    }
+    let text = String::from_utf8(print_out(alloc, line)?)?;
+    assert_eq!(rt; text.as_str(), expected);
+    Ok(())
 }
 
 /// The value of a text.

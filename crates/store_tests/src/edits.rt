@@ -1,5 +1,5 @@
 //! What edits are completed to, and why they are refused.
-use crate::stores::{diff, schema, two_shapes};
+use crate::stores::{diff, schema, two_assets};
 use case_tables::{cells, printed, rows, value};
 use doc_store::MapDoc;
 use field_ops::{Diff, diff_val, read_diff};
@@ -26,31 +26,36 @@ fn told(alloc: Global, fault: &EditFault) -> Result<String, Fail> {
             format!(in alloc; "Rejected {}", id.as_str())?
         }
         EditFault::Invalid(id, fault) => format!(in alloc; "{fault:?} {}", id.as_str())?,
+        EditFault::NoKey(fault) => format!(in alloc; "NoKey {fault:?}")?,
+        EditFault::LastPage => String::from_str(alloc, "LastPage")?,
+        EditFault::NoParent(id) => format!(in alloc; "NoParent {}", id.as_str())?,
+        EditFault::UnderItself(id) => format!(in alloc; "UnderItself {}", id.as_str())?,
+        EditFault::NoEnd(id) => format!(in alloc; "NoEnd {}", id.as_str())?,
         EditFault::OutOfMemory => String::from_str(alloc, "OutOfMemory")?,
     })
 }
 
-/// An edit of two shapes, and the answer: the fault by the first rule, with the least id, or the edit.
+/// An edit of two assets, and the answer: the fault by the first rule, with the least id, or the edit.
 const EDITS: &str = r#"
-{"shape:1":["patch",{"x":["put",7]}],"shape:2":["remove"]} | =
+{"asset:1":["patch",{"x":["put",7]}],"asset:2":["remove"]} | =
 {} | =
 # Ids of sessions, of no type and of no form.
 {"camera:1":["remove"],"camera:2":["remove"]} | WrongScope camera:1
-{"shape:9":["remove"],"thing:1":["put",{}]} | WrongScope thing:1
-{"shape":["remove"],"shape:1":["put",{}]} | WrongScope shape
+{"asset:9":["remove"],"thing:1":["put",{}]} | WrongScope thing:1
+{"asset":["remove"],"asset:1":["put",{}]} | WrongScope asset
 # Records that aren't there.
-{"shape:1":["patch",{"x":["put",700]}],"shape:3":["patch",{}],"shape:4":["remove"]} | NoRecord shape:3
-{"shape:1":["remove"],"shape:4":["remove"]} | NoRecord shape:4
+{"asset:1":["patch",{"x":["put",700]}],"asset:3":["patch",{}],"asset:4":["remove"]} | NoRecord asset:3
+{"asset:1":["remove"],"asset:4":["remove"]} | NoRecord asset:4
 # Records that aren't admitted.
-{"shape:1":["patch",{"x":["put",700]}],"shape:2":["put",{}]} | Rejected shape:1
-{"shape:1":["remove"],"shape:2":["put",{"id":"shape:1","typeName":"shape","x":1}]} | BadId shape:2
+{"asset:1":["patch",{"x":["put",700]}],"asset:2":["put",{}]} | Rejected asset:1
+{"asset:1":["remove"],"asset:2":["put",{"id":"asset:1","typeName":"asset","x":1}]} | BadId asset:2
 "#;
 
 #[test]
 fn refuses_by_the_first_rule_and_the_least_id(rt: HostRuntime) -> Result<(), Fail> {
     let alloc = rt.alloc();
     let schema = schema(alloc)?;
-    let store = two_shapes(alloc, &schema)?;
+    let store = two_assets(alloc, &schema)?;
     for row in &rows(alloc, EDITS)? {
         let [text, wanted, ..] = cells(row);
         let found = answer(alloc, &schema, &store, &diff(alloc, text)?)?;

@@ -1,5 +1,5 @@
 //! Tests of the calls of the store layer, as tables: diffs that are applied to a store, transactions, edits that are
-//! completed or refused, and plain queries. The crate has no code of its own.
+//! completed or refused, marks, and plain queries. The crate has no code of its own.
 #![tactic(auto)]
 
 #[cfg(test)]
@@ -8,6 +8,8 @@ mod changes;
 mod edits;
 #[cfg(test)]
 mod lists;
+#[cfg(test)]
+mod marks;
 #[cfg(test)]
 mod shapes;
 #[cfg(test)]

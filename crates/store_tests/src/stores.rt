@@ -27,10 +27,11 @@ fn row(alloc: Global, name: &str, scope: Scope) -> Result<TypeRow, Fail> {
     })
 }
 
-/// Shapes of the document and cameras of sessions.
+/// Shapes and assets of the document and cameras of sessions.
 pub(crate) fn schema(alloc: Global) -> Result<Schema, Fail> {
     let mut rows = Vec::new(alloc);
     rows.push(row(alloc, "shape", Scope::Document)?)?;
+    rows.push(row(alloc, "asset", Scope::Document)?)?;
     rows.push(row(alloc, "camera", Scope::Session)?)?;
     let sequences = Sequences::build(alloc, Vec::new(alloc))?;
     Ok(Schema::build(alloc, rows, sequences)?)
@@ -42,11 +43,21 @@ pub(crate) fn diff(alloc: Global, text: &str) -> Result<Diff, Fail> {
 }
 
 /// A store with two shapes.
-pub(crate) fn two_shapes(alloc: Global, schema: &Schema) -> Result<MapDoc, Fail> {
+fn two_shapes(alloc: Global, schema: &Schema) -> Result<MapDoc, Fail> {
     let mut store = MapDoc::new(alloc);
     drop(applied(alloc, &mut store, schema, &diff(alloc, BOTH)?)?);
     Ok(store)
 }
+
+/// A store with two assets.
+pub(crate) fn two_assets(alloc: Global, schema: &Schema) -> Result<MapDoc, Fail> {
+    let mut store = MapDoc::new(alloc);
+    drop(applied(alloc, &mut store, schema, &diff(alloc, ASSETS)?)?);
+    Ok(store)
+}
+
+const ASSETS: &str =
+    r#"{"asset:1":["put",{"id":"asset:1","typeName":"asset","x":1}],"asset:2":["put",{"id":"asset:2","typeName":"asset","x":2}]}"#;
 
 const BOTH: &str =
     r#"{"shape:1":["put",{"id":"shape:1","typeName":"shape","x":1}],"shape:2":["put",{"id":"shape:2","typeName":"shape","x":2}]}"#;

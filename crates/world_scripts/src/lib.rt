@@ -9,14 +9,13 @@
 //! - `edit c d`: client c makes the edit of the diff d;
 //! - `times n line`: the line, n times.
 //!
-//! An answer is the lines that are printed, parted by ` and `. Of a line that is refused it is the name of the fault; the
+//! An answer is the lines that are printed, parted by ` and `. Of a line that is refused it is the text of the fault; the
 //! world goes on with the next line. Messages of a trace aren't asked for.
 //!
 //! The crate says nothing in contracts but which events a world plays: what a world answers is looked at where the tests are
 //! run.
 #![tactic(auto)]
 
-mod faults;
 mod lines;
 mod plays;
 

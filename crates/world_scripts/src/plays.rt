@@ -2,10 +2,10 @@
 ghost use Rattle.std.specs.Prelude.{◌≡◌, ◌<◌, true};
 ghost use Rattle.sync_world.specs.Playing.{IsPlayed};
 
-use crate::faults::fault_text;
 use crate::lines::lines_of;
 use board_tables::expanded;
 use case_tables::{cells, rows};
+use fault_texts::step_fault_text;
 use rec_format::{print_out, read_header, read_line};
 use room_model::{Event, OutLine};
 use rooms_val::Steps;
@@ -19,7 +19,7 @@ use sync_world::World;
 /// the first step with another answer, and both.
 ///
 /// # Errors
-/// A header that is none, a line that is no event or one of marks, and where memory is refused.
+/// A header that is none, a line that is no event, and where memory is refused.
 pub fn first_difference(
     alloc: Global,
     header: &str,
@@ -96,20 +96,7 @@ fn is_played(event: &Event) -> bool
 {
     match event {
         Event::Client { version } => 1 <= *version && *version <= 3,
-        Event::Connect { .. } => true,
-        Event::Edit { .. } => true,
-        Event::Presence { .. } => true,
-        Event::Mark { .. } => false,
-        Event::Undo { .. } => false,
-        Event::Redo { .. } => false,
-        Event::Bail { .. } => false,
-        Event::Handle { .. } => true,
-        Event::Send { .. } => true,
-        Event::Deliver { .. } => true,
-        Event::Cut { .. } => true,
-        Event::Lose { .. } => true,
-        Event::Show { .. } => true,
-        Event::End => true,
+        _ => true,
     }
 }
 
@@ -127,7 +114,10 @@ fn stepped<L: Ledger>(
     let mut steps = Steps::<L>::new(blank);
     match world.step(alloc, event, false, &mut steps) {
         Ok(lines) => lines_text(alloc, &lines),
-        Err(fault) => fault_text(alloc, fault),
+        Err(fault) => {
+            let text = step_fault_text(alloc, &fault)?;
+            Ok(String::from_str(alloc, text.as_str())?)
+        }
     }
 }
 
@@ -135,10 +125,7 @@ fn stepped<L: Ledger>(
 fn lines_text(alloc: Global, lines: &[OutLine]) -> Result<String, Fail> {
     let mut out = String::new(alloc);
     for line in lines {
-        let Some(bytes) = print_out(alloc, line)? else {
-            return Err(Fail::from("a line of a trace"));
-        };
-        let text = String::from_utf8(bytes)?;
+        let text = String::from_utf8(print_out(alloc, line)?)?;
         add(&mut out, text.as_str())?;
     }
     Ok(out)

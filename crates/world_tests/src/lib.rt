@@ -2,9 +2,13 @@
 #![tactic(auto)]
 
 #[cfg(test)]
+mod completions;
+#[cfg(test)]
 mod conflicts;
 #[cfg(test)]
 mod connections;
+#[cfg(test)]
+mod marks;
 #[cfg(test)]
 mod played;
 #[cfg(test)]

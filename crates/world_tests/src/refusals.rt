@@ -12,9 +12,9 @@ edit 0 {"shape:z":["patch",{"x":["put",1]}]} | NoRecord shape:z
 edit 0 {"shape:z":["remove"]} | NoRecord shape:z
 # Of an edit that is refused no part is made.
 edit 0 {"shape:a":["patch",{"x":["put",6]}],"shape:z":["remove"]} | NoRecord shape:z
-edit 0 {"shape:a":["patch",{"opacity":["put",101]}]} | Invalid shape:a
+edit 0 {"shape:a":["patch",{"opacity":["put",101]}]} | Invalid shape:a OutOfBounds
 edit 0 {"camera:c":["put",{"id":"camera:c","meta":{},"typeName":"camera","x":0,"y":0,"z":1000}]} | WrongScope camera:c
-{"client":0,"do":"presence","record":{"color":7,"currentPageId":"page:p","cursor":{"x":1,"y":2},"id":"instance_presence:me","meta":{},"selectedShapeIds":[],"typeName":"instance_presence","userName":"u"}} | Invalid instance_presence:me
+{"client":0,"do":"presence","record":{"color":7,"currentPageId":"page:p","cursor":{"x":1,"y":2},"id":"instance_presence:me","meta":{},"selectedShapeIds":[],"typeName":"instance_presence","userName":"u"}} | Invalid instance_presence:me WrongKind
 {"client":0,"do":"connect","readonly":false} | AlreadyOpen
 {"do":"send","session":0} | NothingThere
 {"client":0,"do":"deliver"} | NothingThere
