@@ -3,3 +3,4 @@ pub mod Marks
 pub mod Kept
 pub mod Writes
 pub mod Seen
+pub mod Whole

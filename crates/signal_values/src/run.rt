@@ -1,7 +1,8 @@
 //! Computing a key where it may differ.
 ghost use Rattle.std.specs.Prelude.{◌≡◌, ◌++◌, ◌∷◌, [], ◌<◌, ◌≤◌, ℕ, length, slice_get, slice_index, IsOk, IfOk, IfSome, OnOk, OnErr};
-ghost use Rattle.signal_values.specs.Cells.{IsFresh, IsSound, atoms_of};
-ghost use Rattle.signal_values.specs.Kept.{IsLeft, IsFreshAt, IsFreshKey, HasRun, IsRead, HasListed};
+ghost use Rattle.signal_values.specs.Cells.{IsFresh};
+ghost use Rattle.signal_values.specs.Kept.{IsLeft, IsFreshAt, IsFreshKey, IsRead, HasListed};
+ghost use Rattle.signal_values.specs.Whole.{IsWhole, RunsTo};
 
 use crate::cells::{Cells, Row};
 use crate::rows::{add_row, connect, find, fresh_place, renew};
@@ -19,10 +20,11 @@ fn settle_known<R: Rules>(
     value: R::Value,
     parents: &[usize],
 )
-    requires sound { IsSound (R.meaning rules.now) R.Key.cmp (atoms_of (R.meaning rules.now) R.Key.cmp cells.old.rows.items) cells.old }
+    requires sound { IsWhole (R.meaning rules.now) R.Key.cmp cells.old }
     requires row { i < length cells.old.rows.items }
     requires stale { IsFresh cells.old.fresh.items i → ⊥ }
-    requires run { IfSome (slice_get cells.old.rows.items i) (λ row. HasRun (R.meaning rules.now) (atoms_of (R.meaning rules.now) R.Key.cmp cells.old.rows.items) cells.old.rows.items cells.old.fresh.items row.key value parents.now) }
+    requires run { IfSome (slice_get cells.old.rows.items i)
+        (λ row. RunsTo (R.meaning rules.now) R.Key.cmp cells.old row.key value parents.now) }
     requires spare { length parents.now ≤ cells.old.edges.spare }
     ensures left { IsLeft (R.meaning rules.now) R.Key.cmp epoch cells.old cells.new }
     ensures ready { IsFresh cells.new.fresh.items i }
@@ -43,9 +45,10 @@ fn settle_new<R: Rules>(
     value: R::Value,
     parents: &[usize],
 ) -> Mem<usize>
-    requires sound { IsSound (R.meaning rules.now) R.Key.cmp (atoms_of (R.meaning rules.now) R.Key.cmp cells.old.rows.items) cells.old }
-    requires absent { (i : ℕ) → IfSome (slice_get cells.old.rows.items i) (λ row. row.key ≡ key.now → ⊥) }
-    requires run { HasRun (R.meaning rules.now) (atoms_of (R.meaning rules.now) R.Key.cmp cells.old.rows.items) cells.old.rows.items cells.old.fresh.items key.now value parents.now }
+    requires sound { IsWhole (R.meaning rules.now) R.Key.cmp cells.old }
+    requires absent { (i : ℕ) → IfSome (slice_get cells.old.rows.items i)
+        (λ row. row.key ≡ key.now → ⊥) }
+    requires run { RunsTo (R.meaning rules.now) R.Key.cmp cells.old key.now value parents.now }
     requires spare { length parents.now ≤ cells.old.edges.spare }
     ensures left { IsLeft (R.meaning rules.now) R.Key.cmp epoch cells.old cells.new }
     ensures found { IfOk result (IsFreshAt cells.new key.now) }
@@ -72,8 +75,8 @@ fn settle<R: Rules>(
     value: R::Value,
     parents: &[usize],
 ) -> Mem<usize>
-    requires sound { IsSound (R.meaning rules.now) R.Key.cmp (atoms_of (R.meaning rules.now) R.Key.cmp cells.old.rows.items) cells.old }
-    requires run { HasRun (R.meaning rules.now) (atoms_of (R.meaning rules.now) R.Key.cmp cells.old.rows.items) cells.old.rows.items cells.old.fresh.items key.now value parents.now }
+    requires sound { IsWhole (R.meaning rules.now) R.Key.cmp cells.old }
+    requires run { RunsTo (R.meaning rules.now) R.Key.cmp cells.old key.now value parents.now }
     ensures left { IsLeft (R.meaning rules.now) R.Key.cmp epoch cells.old cells.new }
     ensures found { IfOk result (IsFreshAt cells.new key.now) }
 {
@@ -98,13 +101,14 @@ pub(crate) fn read_atom<R: Rules>(
     epoch: u64,
     key: &R::Key,
 ) -> Mem<usize>
-    requires sound { IsSound (R.meaning rules.now) R.Key.cmp (atoms_of (R.meaning rules.now) R.Key.cmp cells.old.rows.items) cells.old }
+    requires sound { IsWhole (R.meaning rules.now) R.Key.cmp cells.old }
     requires rank { (R.meaning rules.now).rank key.now ≡ 0 }
     requires absent { IsFreshKey cells.old.rows.items cells.old.fresh.items key.now → ⊥ }
     ensures left { IsLeft (R.meaning rules.now) R.Key.cmp epoch cells.old cells.new }
     ensures found { IfOk result (IsFreshAt cells.new key.now) }
     ensures read { IfOk result (IsRead cells.old cells.new) }
-    ensures err { OnErr result ((cells.new.rows.items ≡ cells.old.rows.items) × (cells.new.fresh.items ≡ cells.old.fresh.items)) }
+    ensures err { OnErr result ((cells.new.rows.items ≡ cells.old.rows.items)
+        × (cells.new.fresh.items ≡ cells.old.fresh.items)) }
 {
     let place_key = rules.copy_key(alloc, key)?;
     let row = Row {
@@ -123,12 +127,14 @@ pub(crate) fn atom_row<R: Rules>(
     epoch: u64,
     key: &R::Key,
 ) -> Mem<usize>
-    requires sound { IsSound (R.meaning rules.now) R.Key.cmp (atoms_of (R.meaning rules.now) R.Key.cmp cells.old.rows.items) cells.old }
+    requires sound { IsWhole (R.meaning rules.now) R.Key.cmp cells.old }
     requires rank { (R.meaning rules.now).rank key.now ≡ 0 }
     ensures left { IsLeft (R.meaning rules.now) R.Key.cmp epoch cells.old cells.new }
     ensures listed { IfOk result (HasListed R.Key.cmp cells.old cells.new key.now) }
-    ensures err { OnErr result ((cells.new.rows.items ≡ cells.old.rows.items) × (cells.new.fresh.items ≡ cells.old.fresh.items)) }
-    ensures sure { (i : ℕ) → IfSome (slice_get cells.old.rows.items i) (λ row. row.key ≡ key.now → IsOk result) }
+    ensures err { OnErr result ((cells.new.rows.items ≡ cells.old.rows.items)
+        × (cells.new.fresh.items ≡ cells.old.fresh.items)) }
+    ensures sure { (i : ℕ) → IfSome (slice_get cells.old.rows.items i)
+        (λ row. row.key ≡ key.now → IsOk result) }
 {
     match find(cells, key) {
         Some(i) => Ok(i),
@@ -146,7 +152,8 @@ fn take_answer<R: Rules>(
     parents: &mut Vec<usize>,
 ) -> Mem<()>
     requires { parent < length cells.now.rows.items }
-    ensures got { OnOk result (IfSome (slice_get cells.now.rows.items parent) (λ row. got.new.items ≡ got.old.items ++ row.value ∷ [])) }
+    ensures got { OnOk result (IfSome (slice_get cells.now.rows.items parent)
+        (λ row. got.new.items ≡ got.old.items ++ row.value ∷ [])) }
     ensures parents { OnOk result (parents.new.items ≡ parents.old.items ++ parent ∷ []) }
 {
     let value = rules.copy_value(alloc, &cells.rows[parent].value)?;
@@ -164,7 +171,7 @@ pub(crate) fn refresh<R: Rules, L: Ledger>(
     key: &R::Key,
     steps: &mut Steps<L>,
 ) -> Mem<usize>
-    requires { IsSound (R.meaning rules.now) R.Key.cmp (atoms_of (R.meaning rules.now) R.Key.cmp cells.old.rows.items) cells.old }
+    requires { IsWhole (R.meaning rules.now) R.Key.cmp cells.old }
     ensures left { IsLeft (R.meaning rules.now) R.Key.cmp epoch cells.old cells.new }
     ensures found { IfOk result (IsFreshAt cells.new key.now) }
     ensures free { IsFreshKey cells.old.rows.items cells.old.fresh.items key.now → steps.new ≡ steps.old }

@@ -28,13 +28,13 @@ pub struct Values<R: Rules + Drop> {
 
 impl<R: Rules + Drop> Model for Values<R> {
     ghost use Rattle.signal_values.specs.Seen.{Seen};
-    ghost use Rattle.signal_values.specs.Cells.{IsSound, atoms_of};
+    ghost use Rattle.signal_values.specs.Whole.{IsWhole};
 
     ghost Value = { Seen R R.Key R.Value };
 
     ghost view = { λ s. record { rules = s.rules; rows = s.cells.rows.items; fresh = s.cells.fresh.items; epoch = s.epoch } };
 
-    ghost invariant = { λ s. IsSound (R.meaning s.rules) R.Key.cmp (atoms_of (R.meaning s.rules) R.Key.cmp s.cells.rows.items) s.cells };
+    ghost invariant = { λ s. IsWhole (R.meaning s.rules) R.Key.cmp s.cells };
 }
 
 // The epoch after a change. At its end it stays.
@@ -110,8 +110,10 @@ impl<R: Rules + Drop> Values<R> {
     /// The value of an atom: none only where that is `blank`. It changes nothing.
     pub fn atom(&self, key: &R::Key) -> Option<&R::Value>
         requires { (R.meaning self.now.rules).rank key.now ≡ 0 }
-        ensures found { IfSome result (λ v. v.now ≡ atoms_of (R.meaning self.now.rules) R.Key.cmp self.now.rows key.now) }
-        ensures absent { IfNone result (atoms_of (R.meaning self.now.rules) R.Key.cmp self.now.rows key.now ≡ (R.meaning self.now.rules).blank key.now) }
+        ensures found { IfSome result
+            (λ v. v.now ≡ atoms_of (R.meaning self.now.rules) R.Key.cmp self.now.rows key.now) }
+        ensures absent { IfNone result (atoms_of (R.meaning self.now.rules) R.Key.cmp self.now.rows key.now
+            ≡ (R.meaning self.now.rules).blank key.now) }
     {
         let i = find(&self.cells, key)?;
         Some(&self.cells.rows[i].value)

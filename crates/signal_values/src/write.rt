@@ -1,6 +1,6 @@
 //! Writing atoms.
 ghost use Rattle.std.specs.Prelude.{◌≡◌, ◌<◌, length, slice_get, IfSome};
-ghost use Rattle.signal_values.specs.Cells.{IsSound, atoms_of};
+ghost use Rattle.signal_values.specs.Whole.{IsWhole};
 ghost use Rattle.signal_values.specs.Writes.{IsWritten, IsRowWritten};
 
 use crate::cells::{Cells, Row};
@@ -41,10 +41,12 @@ pub(crate) fn write<R: Rules>(
     i: usize,
     value: R::Value,
 ) -> Written<R::Value>
-    requires sound { IsSound (R.meaning rules.now) R.Key.cmp (atoms_of (R.meaning rules.now) R.Key.cmp cells.old.rows.items) cells.old }
+    requires sound { IsWhole (R.meaning rules.now) R.Key.cmp cells.old }
     requires row { i < length cells.old.rows.items }
-    requires atom { IfSome (slice_get cells.old.rows.items i) (λ row. (R.meaning rules.now).rank row.key ≡ 0) }
-    ensures { IfSome (slice_get cells.old.rows.items i) (λ row. IsWritten (R.meaning rules.now) R.Key.cmp cells.old cells.new i row value epoch result.before result.differs) }
+    requires atom { IfSome (slice_get cells.old.rows.items i)
+        (λ row. (R.meaning rules.now).rank row.key ≡ 0) }
+    ensures { IfSome (slice_get cells.old.rows.items i)
+        (λ row. IsWritten (R.meaning rules.now) R.Key.cmp cells.old cells.new i row value epoch result.before result.differs) }
 {
     let row = &mut cells.rows[i];
     let written = write_row(row, value, epoch);
