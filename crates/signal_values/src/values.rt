@@ -65,6 +65,13 @@ impl<R: Rules + Drop> Values<R> {
         })
     }
 
+    /// The rules.
+    pub fn rules(&self) -> &R
+        ensures { result.now ≡ self.now.rules }
+    {
+        &self.rules
+    }
+
     /// How often an atom changed, at most 2^64 - 1.
     pub fn epoch(&self) -> u64
         ensures { result ≡ self.now.epoch }
