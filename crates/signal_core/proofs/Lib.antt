@@ -1,0 +1,3 @@
+mod GotLemmas
+mod WatchLemmas
+mod NewsLemmas
