@@ -1,0 +1,12 @@
+pub mod Ids
+pub mod Plans
+pub mod PlanLaws
+pub mod Answers
+pub mod Asking
+pub mod Trees
+pub mod Boxes
+pub mod Meaning
+pub mod Exact
+pub mod Lawful
+pub mod Atoms
+pub mod Walks
