@@ -16,3 +16,5 @@ pub mod ConnectLemmas
 pub mod BeginLemmas
 pub mod StepLemmas
 pub mod BackLemmas
+pub mod CaughtUpLemmas
+pub mod EntryLemmas

@@ -7,3 +7,5 @@ pub mod Standing
 pub mod Moving
 pub mod Answers
 pub mod Restoring
+pub mod CaughtUp
+pub mod Entries

@@ -14,6 +14,8 @@ ghost use Rattle.sync_world.specs.Holding.{held_of};
 ghost use Rattle.sync_world.specs.Standing.{Stands, IsAtVersion};
 ghost use Rattle.sync_world.specs.Answers.{StepsTo, is_spent};
 ghost use Rattle.sync_world.specs.Restoring.{GoesBack, Shows};
+ghost use Rattle.sync_world.specs.CaughtUp.{CaughtUpShowTheRoom};
+ghost use Rattle.sync_world.specs.Entries.{ReadonlyEditNothing, AuthorsNameTheirOwn, OthersRemovePresences};
 
 use crate::live::{Answer, Live};
 use room_model::fault::StepFault;
@@ -68,6 +70,12 @@ impl World {
     /// name; so does an undo, if there is no later mark at all and some edit left an inverse. The
     /// records that they patch back are to be admitted at the client's version.
     ///
+    /// Afterwards each client that owes no edit and has reached the room's clock shows the room's
+    /// document, seen at its version. In the room's history an entry of a read-only session names no
+    /// id of the document; an entry with an author names ids of the document and the author's own
+    /// presence alone; and one without author removes the presence of a session that was ended or
+    /// has left.
+    ///
     /// # Errors
     ///
     /// `NoSuchClient`, `NoSuchSession`, `NothingThere`, `Edit`, `Connect`, `NoMark` and `Limit` exactly if
@@ -89,6 +97,10 @@ impl World {
             → Stands schemas world self.old → IsSinceMark schemas number name before world
             → GoesBack schemas world number name before event
             → Shows schemas number before self.new) }
+        ensures caught_up { CaughtUpShowTheRoom self.new }
+        ensures readonly { ReadonlyEditNothing self.new }
+        ensures authored { AuthorsNameTheirOwn self.new }
+        ensures unauthored { OthersRemovePresences self.new }
         ensures spent { self.old.spent ≡ true
             → (result ≡ Err StepFault.OutOfMemory) × (self.new.spent ≡ true) }
         ensures spends { result ≡ Err StepFault.OutOfMemory → self.new.spent ≡ true }

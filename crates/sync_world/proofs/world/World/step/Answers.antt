@@ -1,7 +1,10 @@
 use Rattle.std.proofs.Common.{◌∙◌, ap, sym, subst}
 use Rattle.room_model.specs.Worlds.{after_event}
 use Rattle.sync_world.specs.Answers.{StepsTo, is_spent}
+use Rattle.sync_world.specs.declared.world.World.{World}
 use Rattle.sync_world.proofs.StepLemmas.{steps_to, goes_back}
+use Rattle.sync_world.proofs.CaughtUpLemmas.{caught_up}
+use Rattle.sync_world.proofs.EntryLemmas.{readonly, authored, unauthored}
 use Rattle.sync_world.proofs.world.World.step.Goals as goal
 
 pub returns-in-Ok-clause-step : goal.returns-in-Ok-clause-step
@@ -15,3 +18,23 @@ returns-in-Ok-clause-spends g c = λ is. c.is_spent-self.ensures ∙ ap is_spent
 
 pub returns-in-Ok-clause-goes_back : goal.returns-in-Ok-clause-goes_back
 returns-in-Ok-clause-goes_back g c = goes_back c.args.trace c.args.event c.args.self.now c.happen.new.self _ c.in-Ok.answer c.is_spent-self.ensures c.in-Ok.ensures
+
+pub returns-in-Ok-clause-caught_up : goal.returns-in-Ok-clause-caught_up
+returns-in-Ok-clause-caught_up g c =
+    let code : World = record { live = c.happen.new.self; spent = c.is_spent-self.result } in
+    caught_up code
+
+pub returns-in-Ok-clause-readonly : goal.returns-in-Ok-clause-readonly
+returns-in-Ok-clause-readonly g c =
+    let code : World = record { live = c.happen.new.self; spent = c.is_spent-self.result } in
+    readonly code
+
+pub returns-in-Ok-clause-authored : goal.returns-in-Ok-clause-authored
+returns-in-Ok-clause-authored g c =
+    let code : World = record { live = c.happen.new.self; spent = c.is_spent-self.result } in
+    authored code
+
+pub returns-in-Ok-clause-unauthored : goal.returns-in-Ok-clause-unauthored
+returns-in-Ok-clause-unauthored g c =
+    let code : World = record { live = c.happen.new.self; spent = c.is_spent-self.result } in
+    unauthored code
