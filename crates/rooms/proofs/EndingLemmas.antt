@@ -1,6 +1,7 @@
 -- What the end of a replay says of its status.
-use Rattle.std.proofs.Common.{◌≡◌, ℕ, ◌⊎◌, List, Bool, Option, None, Some, Ok, Err, refl, inl, inr, arith}
-use Rattle.rooms.specs.Runs.{IsReplayStatus, WritesAll, Prints, PrintsFront, Leaves, status_code}
+use Rattle.std.proofs.Common.{◌≡◌, ℕ, ◌⊎◌, List, Bool, Option, None, Some, Ok, Err, refl, subst, inl, inr, arith}
+use Rattle.rooms.specs.Runs.{IsStatus, IsReplayStatus, IsMakeStatus, Makes, MakesFront, WritesAll, Prints, status_code}
+use Rattle.rooms.specs.declared.job.Job.TheVariants.{Replay, Make}
 use Rattle.rooms.specs.declared.play.End.{End}
 use Rattle.rooms.specs.declared.play.End.TheVariants.{Done, Refused}
 use Rattle.rooms.specs.declared.play.Stop.{Stop}
@@ -57,3 +58,44 @@ replay_is_asked s (inr (inl is)) two = absurd (omega (arith, is, two))
 replay_is_asked s (inr (inr (inl is))) two = absurd (omega (arith, is, two))
 replay_is_asked s (inr (inr (inr (inl is)))) two = absurd (omega (arith, is, two))
 replay_is_asked s (inr (inr (inr (inr is)))) two = absurd (omega (arith, is, two))
+
+-- the statuses of a made recording are those of the program, and neither 2, 3 nor 4
+pub make_status : (s : ℕ) → IsMakeStatus s → IsStatus s
+make_status s (inl is) = inr (inl is)
+make_status s (inr (inl is)) = inr (inr (inr (inr (inl is))))
+make_status s (inr (inr is)) = inr (inr (inr (inr (inr is))))
+
+pub make_is_asked : (s : ℕ) → IsMakeStatus s → s ≡ 2 → ⊥
+make_is_asked s (inl is) two = absurd (omega (arith, is, two))
+make_is_asked s (inr (inl is)) two = absurd (omega (arith, is, two))
+make_is_asked s (inr (inr is)) two = absurd (omega (arith, is, two))
+
+pub make_reads_nothing : (s : ℕ) → IsMakeStatus s → s ≡ 4 → ⊥
+make_reads_nothing s (inl is) four = absurd (omega (arith, is, four))
+make_reads_nothing s (inr (inl is)) four = absurd (omega (arith, is, four))
+make_reads_nothing s (inr (inr is)) four = absurd (omega (arith, is, four))
+
+pub make_stopped : (s : Stop) → (s ≡ SourceFailed → ⊥) → IsMakeStatus (status_code (Err s))
+make_stopped SourceFailed sink = absurd (sink refl)
+make_stopped SinkFailed sink = inr (inl refl)
+make_stopped OutOfMemory sink = inr (inr refl)
+
+-- what words ask for they ask for alone
+pub same_trace : (a b : Bool) → Some (Replay a) ≡ Some (Replay b) → a ≡ b
+same_trace a b is = cc
+
+same_make : (a b m n : ℕ) (p q : Bool) → Some (Make a m p) ≡ Some (Make b n q) → (a ≡ b) × (m ≡ n) × (p ≡ q)
+same_make a b m n p q is = (cc, cc, cc)
+
+pub made_as : (a b m n : ℕ) (p q : Bool) (old new : Option (List ℕ)) → Some (Make a m p) ≡ Some (Make b n q) → Makes a m p old new → Makes b n q old new
+made_as a b m n p q old new is made =
+    let same = same_make a b m n p q is in
+    subst (λ x. Makes x n q old new) same.0 (subst (λ x. Makes a x q old new) same.1 (subst (λ x. Makes a m x old new) same.2 made))
+
+pub unmade_as : (a b m n : ℕ) (p q : Bool) (old new : Option (List ℕ)) → Some (Make a m p) ≡ Some (Make b n q) → MakesFront a m p old new → MakesFront b n q old new
+unmade_as a b m n p q old new is made =
+    let same = same_make a b m n p q is in
+    subst (λ x. MakesFront x n q old new) same.0 (subst (λ x. MakesFront a x q old new) same.1 (subst (λ x. MakesFront a m x old new) same.2 made))
+
+pub not_both : (trace : Bool) (seed size : ℕ) (print : Bool) → Some (Replay trace) ≡ Some (Make seed size print) → ⊥
+not_both trace seed size print is = cc

@@ -1,5 +1,5 @@
 -- What was written so far, beside what the lines that are left write.
-use Rattle.std.proofs.Common.{◌≡◌, ℕ, ◌+◌, ◌<◌, ◌≤◌, arith, nat_lt, List, [], ◌∷◌, ◌++◌, length, drop, Bool, true, false, Option, None, Some, Ok, Err, refl, sym, ap, subst, ◌∙◌, append_assoc, append-nil, inl, inr}
+use Rattle.std.proofs.Common.{◌≡◌, ℕ, ◌+◌, arith, nat_lt, List, [], ◌∷◌, ◌++◌, length, drop, Bool, true, false, Option, None, Some, Ok, refl, sym, ap, subst, ◌∙◌, append_assoc, append-nil, inl, inr}
 use Rattle.std.specs.Global.{Vec}
 use Rattle.std.specs.Prelude.{⊤}
 use Rattle.room_link.specs.Held.{Extends}
@@ -8,11 +8,11 @@ use Rattle.recording_lines.specs.Lines.{lines_left, is_whole, recorded_lines, mo
 use Rattle.room_model.specs.declared.line.OutLine.{OutLine}
 use Rattle.rooms.specs.Taking.{Progress, Taken, refused, passed, ended, Takes}
 use Rattle.rooms.specs.Texts.{lines_text, fault_line, unended_text}
-use Rattle.rooms.specs.Replay.{Written, Writes, WritesFront, Replays, ReplaysFront, IsFront, Follows, FollowsFront}
-use Rattle.rooms.specs.Replies.{Reads, Tells, Becomes, reply_text, reply_end}
-use Rattle.rooms.specs.Proceeding.{IsNext, IsStillToCome, Proceeds, IfGoesOn}
+use Rattle.rooms.specs.Replay.{Written, Writes, WritesFront, Replays, ReplaysFront, IsFront}
+use Rattle.rooms.specs.Replies.{Reads, Tells, reply_text, reply_end}
+use Rattle.rooms.specs.Proceeding.{IsNext, Proceeds, IfGoesOn}
 use Rattle.recording_lines.specs.Reading.{TakesUnread}
-use Rattle.rooms.specs.Runs.{WritesAll, PrintsFront, Leaves, TakesFront, status_of, status_code}
+use Rattle.rooms.specs.Runs.{PrintsFront, Leaves, TakesFront, status_of, status_code}
 use Rattle.rooms.specs.declared.play.End.{End}
 use Rattle.rooms.specs.declared.play.End.TheVariants as end
 use Rattle.rooms.specs.declared.replay.Reply.{Reply}

@@ -3,3 +3,7 @@ pub mod TakingLemmas
 pub mod ProceedingLemmas
 pub mod WritingLemmas
 pub mod EndingLemmas
+pub mod NumberLemmas
+pub mod CaughtUpLemmas
+pub mod MadeLemmas
+pub mod ReadyLemmas

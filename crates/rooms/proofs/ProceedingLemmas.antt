@@ -1,5 +1,5 @@
 -- What the answers of a reader of lines say of what comes next.
-use Rattle.std.proofs.Common.{◌≡◌, ℕ, ◌<◌, nat_lt, List, [], ◌∷◌, length, drop, Bool, Option, None, Some, IfSome, refl, sym, ap, subst, ◌∙◌}
+use Rattle.std.proofs.Common.{◌≡◌, ℕ, nat_lt, List, [], ◌∷◌, length, drop, Bool, Option, None, Some, IfSome, sym, ap, subst, ◌∙◌}
 use Rattle.std.specs.Prelude.{codes}
 use Rattle.recording_lines.specs.Lines.{lines_left}
 use Rattle.recording_lines.specs.Reading.{LosesLine, BeginsTooLong}

@@ -1,5 +1,5 @@
 -- What the code's replies say of a line and of its event.
-use Rattle.std.proofs.Common.{◌≡◌, ℕ, ◌<◌, ◌≤◌, nat_le, List, [], length, Bool, true, false, ◌&&◌, Option, Some, None, Result, Ok, Err, IfOk, refl, sym, ap, subst, ◌∙◌, inl, inr, arith}
+use Rattle.std.proofs.Common.{◌≡◌, ℕ, ◌<◌, nat_le, List, [], length, Bool, true, false, ◌&&◌, Option, Some, None, Result, Ok, Err, IfOk, refl, sym, ap, subst, inl, inr, arith}
 use Rattle.std.specs.Prelude.{codes}
 use Rattle.std.specs.Global.{Vec}
 use Rattle.std.proofs.lemmas.Bool.Decides.{nat_tests}
@@ -24,7 +24,7 @@ use Rattle.sync_world.specs.Answers.{StepsTo, Faults, Refuses}
 use Rattle.sync_world.specs.Playing.{IsPlayed}
 use Rattle.sync_world.specs.Standing.{Stands, IsAtVersion}
 use Rattle.sync_world.specs.declared.world.World.{World}
-use Rattle.rooms.specs.Taking.{Progress, Taken, refused, passed, ended, is_end, is_passed_by, Happens, TakesUnless}
+use Rattle.rooms.specs.Taking.{Progress, refused, passed, ended, is_end, is_passed_by, TakesUnless}
 use Rattle.rooms.specs.Replies.{Reads, Becomes, BecomesHeader, BecomesEvent, BecomesOf}
 use Rattle.rooms.specs.declared.replay.Reply.{Reply}
 use Rattle.rooms.specs.declared.replay.Reply.TheVariants.{Refused, Wrote, Ended}

@@ -1,12 +1,21 @@
 -- The words of the command line.
-use Rattle.std.specs.Prelude.{ℕ, List, [], ◌∷◌, codes, true, false, if◌then◌else◌, Option, Some, None, ◌&&◌}
+use Rattle.std.specs.Prelude.{ℕ, ◌-◌, ◌^◌, List, [], ◌∷◌, codes, Bool, true, false, if◌then◌else◌, Option, Some, None, option_map, option_and_then, ◌&&◌}
 use Rattle.std.specs.Str.{bytes_eq}
+use Rattle.rooms.specs.Numbers.{number_between}
 use Rattle.rooms.specs.declared.job.Job.{Job}
-use Rattle.rooms.specs.declared.job.Job.TheVariants.{Replay}
+use Rattle.rooms.specs.declared.job.Job.TheVariants.{Replay, Make}
+use Rattle.rooms.specs.declared.job.TheConstants.{MOST_DRAWS}
 
--- the row of the usage that the words are in: `replay`, or `replay --trace`
+-- a seed of 64 bits, and a size from 1 on
+abbrev pub make_named : List ℕ → List ℕ → Bool → Option Job
+make_named seed size print =
+    option_and_then (λ s. option_map (λ n. Make s n print) (number_between 1 MOST_DRAWS size)) (number_between 0 (2 ^ 64 - 1) seed)
+
+-- the row of the usage that the words are in: `replay`, `replay --trace`, `make SEED SIZE` or `make SEED SIZE --print`
 abbrev pub job_named : List (List ℕ) → Option Job
 job_named [] = None
 job_named (word ∷ []) = if bytes_eq word (codes "replay") then Some (Replay false) else None
 job_named (word ∷ flag ∷ []) = if bytes_eq word (codes "replay") && bytes_eq flag (codes "--trace") then Some (Replay true) else None
-job_named (word ∷ flag ∷ next ∷ words) = None
+job_named (word ∷ seed ∷ size ∷ []) = if bytes_eq word (codes "make") then make_named seed size false else None
+job_named (word ∷ seed ∷ size ∷ flag ∷ []) = if bytes_eq word (codes "make") && bytes_eq flag (codes "--print") then make_named seed size true else None
+job_named (word ∷ seed ∷ size ∷ flag ∷ next ∷ words) = None

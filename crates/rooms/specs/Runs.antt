@@ -1,20 +1,21 @@
 -- How a run ends, and what it leaves in its sink.
-use Rattle.std.specs.Prelude.{◌≡◌, ◌≤◌, ℕ, ◌⊎◌, List, length, Bool, true, ⊤, Option, Some, None, Result, Ok, Err, if◌then◌else◌}
+use Rattle.std.specs.Prelude.{◌≡◌, ◌≤◌, ℕ, ◌⊎◌, List, length, Bool, ⊤, Option, Some, None, Result, Ok, Err, if◌then◌else◌}
 use Rattle.std.specs.Io.KnownBytes.{Consumes}
 use Rattle.recording_lines.specs.declared.fault.ReadFault.{ReadFault}
 use Rattle.recording_lines.specs.declared.fault.ReadFault.TheVariants as read
 use Rattle.room_link.specs.Held.{Extends}
+use Rattle.rooms.specs.Made.{IsMade, IsMadeFront}
 use Rattle.rooms.specs.Replay.{Written, Replays, ReplaysFront}
 use Rattle.rooms.specs.Replies.{Reads}
 use Rattle.rooms.specs.declared.job.Job.{Job}
-use Rattle.rooms.specs.declared.job.Job.TheVariants.{Replay}
+use Rattle.rooms.specs.declared.job.Job.TheVariants.{Replay, Make}
 use Rattle.rooms.specs.declared.play.End.{End}
 use Rattle.rooms.specs.declared.play.End.TheVariants.{Done, Refused}
 use Rattle.rooms.specs.declared.play.Stop.{Stop}
 use Rattle.rooms.specs.declared.play.Stop.TheVariants.{SourceFailed, SinkFailed, OutOfMemory}
 use Rattle.sync_world.specs.declared.world.World.{World}
 
--- the status with which the program ends
+-- the status with which a replay ends
 abbrev pub status_code : Result End Stop → ℕ
 status_code (Ok Done) = 0
 status_code (Ok Refused) = 3
@@ -25,6 +26,10 @@ status_code (Err OutOfMemory) = 6
 -- the statuses of a replay
 abbrev pub IsReplayStatus : ℕ → Type 0
 IsReplayStatus status = (status ≡ 0) ⊎ (status ≡ 3) ⊎ (status ≡ 4) ⊎ (status ≡ 5) ⊎ (status ≡ 6)
+
+-- the statuses of a recording that is made
+abbrev pub IsMakeStatus : ℕ → Type 0
+IsMakeStatus status = (status ≡ 0) ⊎ (status ≡ 5) ⊎ (status ≡ 6)
 
 -- the statuses with which the program ends
 abbrev pub IsStatus : ℕ → Type 0
@@ -64,7 +69,16 @@ abbrev pub stop_of : ReadFault → Stop
 stop_of read.Failed = SourceFailed
 stop_of read.OutOfMemory = OutOfMemory
 
--- the words ask for messages to be printed too
-abbrev pub is_traced : Option Job → Bool
-is_traced None = true
-is_traced (Some (Replay trace)) = trace
+-- what is made by a seed was added to a sink
+abbrev pub Makes : ℕ → ℕ → Bool → Option (List ℕ) → Option (List ℕ) → Type 0
+Makes seed size print old new = (text : List ℕ) × IsMade seed size print text × Extends old new text
+
+-- a front of it was
+abbrev pub MakesFront : ℕ → ℕ → Bool → Option (List ℕ) → Option (List ℕ) → Type 0
+MakesFront seed size print old new = (front : List ℕ) × IsMadeFront seed size print front × Extends old new front
+
+-- the statuses of a job, or of words that ask for none
+abbrev pub IsStatusOf : Option Job → ℕ → Type 0
+IsStatusOf None status = status ≡ 2
+IsStatusOf (Some (Replay trace)) status = IsReplayStatus status
+IsStatusOf (Some (Make seed size print)) status = IsMakeStatus status

@@ -1,5 +1,5 @@
 -- What becomes of a line of a recording.
-use Rattle.std.specs.Prelude.{◌≡◌, ℕ, nat_le, List, [], length, codes, Bool, true, false, ◌&&◌, ◌⊎◌, Option, Some, None, Ok, Err}
+use Rattle.std.specs.Prelude.{◌≡◌, ℕ, nat_le, List, [], length, Bool, true, false, ◌&&◌, ◌⊎◌, Option, Some, None, Ok, Err}
 use Rattle.recording_lines.specs.Lines.{is_blank}
 use Rattle.rec_format.specs.Lines.{IsHeader, IsEvent, RefusesHeader, RefusesLine}
 use Rattle.rec_format.specs.declared.fault.LineFault.{LineFault}

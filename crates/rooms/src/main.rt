@@ -1,12 +1,16 @@
-//! The program `rooms`: it replays recordings of clients and a room.
+//! The program `rooms`: it replays recordings of clients and a room, and makes them.
 //!
 //! `run` is the top call; its clauses say what is written, and when each status comes. A recording's
 //! lines are read one by one (`recording_lines`) and taken (`replay`): as the header, or as an event
 //! of `rec_format` that happens in a `World` of `sync_world`. What a line prints is written (`play`,
-//! `texts`, `writing`) before the source is read on. What a recording writes is defined in `specs/`.
+//! `texts`, `writing`) before the source is read on. What a recording writes is defined in `specs/`. A
+//! made recording's events come from `load_maker`, and happen in such a world too (`make`, `making`).
 #![tactic(auto)]
 
 mod job;
+mod make;
+mod making;
+mod numbers;
 mod play;
 mod replay;
 mod run;

@@ -1,5 +1,5 @@
 //! A recording, replayed from its source to its sink.
-ghost use Rattle.std.specs.Prelude.{◌≡◌, ◌<◌, ◌≤◌, ◌⊎◌, List, ℕ, IfOk, OnOk, OnErr, IsErrOf, None};
+ghost use Rattle.std.specs.Prelude.{◌≡◌, ◌<◌, ◌≤◌, ◌⊎◌, List, ℕ, IfOk, OnOk, OnErr, IsErrOf, IfSome, None};
 ghost use Rattle.recording_lines.specs.Lines.{most_bytes};
 ghost use Rattle.recording_lines.specs.Reading.{budget, to_come, TakesUnread};
 ghost use Rattle.rooms.specs.Texts.{unended_text};
@@ -7,6 +7,8 @@ ghost use Rattle.rooms.specs.Taking.{Progress};
 ghost use Rattle.rooms.specs.Replay.{IsFront};
 ghost use Rattle.rooms.specs.Replies.{Reads, reply_text, reply_end};
 ghost use Rattle.rooms.specs.Proceeding.{Proceeds, IfGoesOn};
+ghost use Rattle.rooms.specs.CaughtUp.{CaughtUpPrintTheRoom};
+ghost use Rattle.sync_world.specs.CaughtUp.{CaughtUpShowTheRoom};
 ghost use Rattle.rooms.specs.Runs.{Leaves, WritesAll, PrintsFront, TakesFront, IsReplayStatus, status_code};
 ghost use Rattle.room_link.specs.Held.{Extends};
 ghost use Rattle.rooms.specs.declared.play.Stop.TheVariants as stop;
@@ -114,6 +116,11 @@ pub fn replay_job<S: Source, K: Sink, L: Ledger>(
     // On 4, 5 and 6 a front of it is written.
     ensures stopped { (result.status ≡ 4) ⊎ (result.status ≡ 5) ⊎ (result.status ≡ 6)
         → PrintsFront trace (S.left source.old) (K.held sink.old) (K.held sink.new) }
+    // In the world that is answered, each client that has caught up with the room shows its document.
+    ensures caught_up { IfSome result.world CaughtUpShowTheRoom }
+
+    // So does each such client in what is printed on the way, wherever it is asked.
+    ensures shown { IfSome (S.left source.old) (CaughtUpPrintTheRoom trace) }
     ensures no_world { (result.status ≡ 4) ⊎ (result.status ≡ 5) ⊎ (result.status ≡ 6)
         → result.world ≡ None }
     ensures reads { TakesFront most_bytes (S.left source.old) (S.left source.new) }
@@ -133,8 +140,8 @@ pub fn replay_job<S: Source, K: Sink, L: Ledger>(
     }
 }
 
-// The status with which the program ends.
-fn status(end: Result<End, Stop>) -> u8
+/// The status with which the program ends.
+pub(crate) fn status(end: Result<End, Stop>) -> u8
     ensures { result ≡ status_code end }
 {
     match end {

@@ -1,10 +1,12 @@
 //! The top call.
-ghost use Rattle.std.specs.Prelude.{◌≡◌, ◌<◌, ◌↔◌, ◌⊎◌, string_bytes, map, None};
+ghost use Rattle.std.specs.Prelude.{◌≡◌, ◌<◌, ◌↔◌, ◌⊎◌, ℕ, Bool, string_bytes, map, Some, None, IfSome};
 ghost use Rattle.recording_lines.specs.Lines.{most_bytes};
+ghost use Rattle.rooms.specs.CaughtUp.{CaughtUpPrintTheRoom};
 ghost use Rattle.rooms.specs.Jobs.{job_named};
-ghost use Rattle.rooms.specs.Runs.{IsStatus, Prints, PrintsFront, TakesFront, is_traced};
+ghost use Rattle.rooms.specs.Runs.{IsStatus, IsStatusOf, Prints, PrintsFront, Makes, MakesFront, TakesFront};
 
-use crate::job::job_of;
+use crate::job::{Job, job_of};
+use crate::make::make_job;
 use crate::play::replay_job;
 use room_link::sink::Sink;
 use room_link::source::Source;
@@ -28,19 +30,39 @@ pub fn run<S: Source, K: Sink, L: Ledger>(
 ) -> u8
     ensures known { IsStatus result }
 
-    // 2 comes exactly where the words ask for no job, and then nothing is read or written.
+    // 2 comes exactly where the words ask for no job, and then nothing is read or written. A made
+    // recording ends with 0, 5 or 6.
     ensures usage { (result ≡ 2) ↔ (job_named (map string_bytes words.now) ≡ None) }
+    ensures statuses { IsStatusOf (job_named (map string_bytes words.now)) result }
     ensures untouched { result ≡ 2 → (source.new ≡ source.old) × (sink.new ≡ sink.old) }
 
-    // On 0 and 3 what the recording writes is written, and the status is the recording's.
-    ensures done { (result ≡ 0) ⊎ (result ≡ 3)
-        → Prints (is_traced (job_named (map string_bytes words.now))) (S.left source.old) result
-        (K.held sink.old) (K.held sink.new) }
+    // A replay: on 0 and 3 what the recording writes is written, and the status is the recording's;
+    // on 4, 5 and 6 a front of it is written.
+    ensures done { (trace : Bool) → job_named (map string_bytes words.now) ≡ Some (Job.Replay trace)
+        → (result ≡ 0) ⊎ (result ≡ 3)
+        → Prints trace (S.left source.old) result (K.held sink.old) (K.held sink.new) }
+    ensures stopped { (trace : Bool)
+        → job_named (map string_bytes words.now) ≡ Some (Job.Replay trace)
+        → (result ≡ 4) ⊎ (result ≡ 5) ⊎ (result ≡ 6)
+        → PrintsFront trace (S.left source.old) (K.held sink.old) (K.held sink.new) }
 
-    // On 4, 5 and 6 a front of it is written.
-    ensures stopped { (result ≡ 4) ⊎ (result ≡ 5) ⊎ (result ≡ 6)
-        → PrintsFront (is_traced (job_named (map string_bytes words.now))) (S.left source.old)
-        (K.held sink.old) (K.held sink.new) }
+    // In each world to which its first lines lead, a client that has caught up with the room shows
+    // the room's document.
+    ensures shown { (trace : Bool) → job_named (map string_bytes words.now) ≡ Some (Job.Replay trace)
+        → IfSome (S.left source.old) (CaughtUpPrintTheRoom trace) }
+
+    // A made recording: on 0 what is made by the seed is written, on 5 and 6 a front of it; and
+    // nothing is read.
+    ensures made { (seed size : ℕ) (print : Bool)
+        → job_named (map string_bytes words.now) ≡ Some (Job.Make seed size print)
+        → result ≡ 0 → Makes seed size print (K.held sink.old) (K.held sink.new) }
+    ensures unmade { (seed size : ℕ) (print : Bool)
+        → job_named (map string_bytes words.now) ≡ Some (Job.Make seed size print)
+        → (result ≡ 5) ⊎ (result ≡ 6)
+        → MakesFront seed size print (K.held sink.old) (K.held sink.new) }
+    ensures unread { (seed size : ℕ) (print : Bool)
+        → job_named (map string_bytes words.now) ≡ Some (Job.Make seed size print)
+        → source.new ≡ source.old }
 
     // On every status the source held a front of at most 2^30 bytes, followed by what it holds.
     ensures reads { TakesFront most_bytes (S.left source.old) (S.left source.new) }
@@ -51,6 +73,9 @@ pub fn run<S: Source, K: Sink, L: Ledger>(
 {
     match job_of(words) {
         None => USAGE,
-        Some(job) => replay_job(alloc, job.is_traced(), source, sink, steps).status,
+        Some(job) => match job {
+            Job::Replay { trace } => replay_job(alloc, trace, source, sink, steps).status,
+            Job::Make { seed, size, print } => make_job(alloc, seed, size, print, sink, steps),
+        },
     }
 }

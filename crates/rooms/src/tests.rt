@@ -296,12 +296,60 @@ fn ends_where_a_read_fails(rt: HostRuntime) -> Result<(), Fail> {
 fn takes_no_other_words(rt: HostRuntime) -> Result<(), Fail> {
     let alloc = rt.alloc();
     let table =
-        "\nreplay x\nfly\nreplay --trace --trace\n--trace\nreplay --save\nmake 7 2000\nmake 0 0\n--help";
+        "\nreplay x\nfly\nreplay --trace --trace\n--trace\nreplay --save\nmake\nmake 7\nmake 0 0\nmake 0 100001\nmake 18446744073709551616 1\nmake 07 1\nmake +7 1\nmake -7 1\nmake 7 01\nmake 7 1 --trace\nmake 7 1 --print --print\n--help";
     for words in table.split('\n') {
         let mut source = SteadySource::new(b"{}".to_vec(alloc)?, 4096);
         let mut sink = SteadySink::new(alloc, 4096);
         assert_eq!(rt; run_words(alloc, words, &mut source, &mut sink)?, 2);
         assert_eq!(rt; sink.bytes(), b"".as_slice());
+    }
+    Ok(())
+}
+
+// What is written of a recording that the words make.
+fn made(rt: &impl Abort, alloc: Global, words: &str) -> Result<String, Fail> {
+    let mut source = SteadySource::new(Vec::new(alloc), 4096);
+    let mut sink = SteadySink::new(alloc, 65_536);
+    assert_eq!(rt; run_words(alloc, words, &mut source, &mut sink)?, 0);
+    assert!(rt; sink.is_whole());
+    Ok(String::from_utf8(sink.bytes().to_vec(alloc)?)?)
+}
+
+// The first field of the last line.
+fn last_first_field(text: &str) -> &str {
+    let line = text.lines().last().unwrap_or("");
+    line.split(",").next().unwrap_or("")
+}
+
+#[test]
+fn makes_what_it_sums_up(rt: HostRuntime) -> Result<(), Fail> {
+    let alloc = rt.alloc();
+    let sum = made(&rt, alloc, "make 7 2000")?;
+    assert_eq!(rt; sum.as_str().lines().count(), 1);
+    assert!(rt; sum.as_str().contains(",\"draws\":2000,\"records\":"));
+    let recording = made(&rt, alloc, "make 7 2000 --print")?;
+    assert!(rt;
+        recording
+            .as_str()
+            .starts_with("{\"recording\":1,\"version\":3}\n")
+    );
+    assert!(rt; recording.as_str().ends_with("{\"do\":\"end\"}\n"));
+    let mut source = SteadySource::new(recording.into_bytes(), 65_536);
+    let mut sink = SteadySink::new(alloc, 65_536);
+    assert_eq!(rt; run_words(alloc, "replay", &mut source, &mut sink)?, 0);
+    let replayed = String::from_utf8(sink.bytes().to_vec(alloc)?)?;
+    assert_eq!(rt;
+        last_first_field(replayed.as_str()),
+        last_first_field(sum.as_str())
+    );
+    Ok(())
+}
+
+#[test]
+fn makes_by_the_least_and_the_greatest_seed(rt: HostRuntime) -> Result<(), Fail> {
+    let alloc = rt.alloc();
+    for words in ["make 0 1", "make 18446744073709551615 50"] {
+        assert_eq!(rt; made(&rt, alloc, words)?.as_str().lines().count(), 1);
     }
     Ok(())
 }

@@ -7,17 +7,20 @@ use std::io::Write;
 use std::{env, io};
 
 /// The rows of words that the program takes.
-const USAGE_LINE: &str = "usage: rooms replay [--trace]\n";
+const USAGE_LINE: &str = "usage: rooms replay [--trace] / make SEED SIZE [--print]\n";
 
 /// What each word means.
 pub(crate) const HELP: &str = "\
-usage: rooms replay [--trace]
+usage: rooms replay [--trace] / make SEED SIZE [--print]
 
-  replay           replays the recording on standard input, as it comes: prints what its clients show, and what the room
-                   holds at its end
-  replay --trace   prints the messages between the clients and the room too
-  --help           prints this
-  --version        prints the program's name and version
+  replay                   replays the recording on standard input, as it comes: prints what its clients show, and what
+                           the room holds at its end
+  replay --trace           prints the messages between the clients and the room too
+  make SEED SIZE           makes a recording of SIZE draws, 1 to 100,000, by a seed below 2^64, and prints a line: what
+                           the room holds at its end, and how many events were taken and left out
+  make SEED SIZE --print   prints the recording itself
+  --help                   prints this
+  --version                prints the program's name and version
 ";
 
 /// The program's name and version.

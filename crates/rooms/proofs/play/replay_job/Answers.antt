@@ -1,6 +1,7 @@
 use Rattle.std.proofs.Common.{◌≡◌, ◌⊎◌, sym, ap, subst, ◌∙◌, inl, inr}
-use Rattle.rooms.specs.Runs.{IsReplayStatus, WritesAll, PrintsFront, Leaves, status_code}
-use Rattle.rooms.proofs.EndingLemmas.{read_status, stopped_status, read_is_not_stopped, stopped_is_not_read, source_failed, sink_failed}
+use Rattle.rooms.specs.Runs.{IsReplayStatus, WritesAll, Leaves}
+use Rattle.rooms.proofs.EndingLemmas.{read_status, stopped_status, read_is_not_stopped, stopped_is_not_read}
+use Rattle.rooms.proofs.CaughtUpLemmas.{told_print, answered_show}
 use Rattle.rooms.proofs.play.replay_job.Goals as goal
 
 pub returns-in-Ok-clause-known : goal.returns-in-Ok-clause-known
@@ -40,3 +41,12 @@ returns-in-Err-clause-stopped g c = λ is.
     let world = c.play.new.replay.world in
     subst (λ r. Leaves c.args.trace left r world (held c.args.sink.now) (held c.play.new.sink)) c.in-Err.is
     (subst (λ t. Leaves t left c.play.result world (held c.args.sink.now) (held c.play.new.sink)) (ap (λ r. r.trace) c.new-replay.ensures) c.play.ensures.leaves)
+
+pub returns-in-Ok-clause-shown : goal.returns-in-Ok-clause-shown
+returns-in-Ok-clause-shown g c = told_print c.args.trace (g.S.Source.left c.args.source.now)
+
+pub returns-in-Err-clause-shown : goal.returns-in-Err-clause-shown
+returns-in-Err-clause-shown g c = told_print c.args.trace (g.S.Source.left c.args.source.now)
+
+pub returns-in-Ok-clause-caught_up : goal.returns-in-Ok-clause-caught_up
+returns-in-Ok-clause-caught_up g c = answered_show c.play.new.replay.world

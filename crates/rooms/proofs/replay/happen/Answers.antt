@@ -1,4 +1,4 @@
-use Rattle.std.proofs.Common.{◌≡◌, true, false, Ok, Err, sym, subst, ◌∙◌}
+use Rattle.std.proofs.Common.{◌≡◌, true, false, sym, subst, ◌∙◌}
 use Rattle.room_model.specs.Worlds.{after_event}
 use Rattle.sync_world.specs.Answers.{StepsTo}
 use Rattle.rooms.specs.Taking.{is_end}

@@ -1,9 +1,8 @@
-use Rattle.std.proofs.Common.{◌≡◌, ◌+◌, List, ℕ, ◌++◌, take, OnErr, subst, sym, ap, ◌∙◌, arith}
+use Rattle.std.proofs.Common.{◌≡◌, ◌++◌, take, subst, sym, ◌∙◌, arith}
 use Rattle.std.proofs.lemmas.Result.{err_from_is_err_and}
 use Rattle.room_link.specs.Held.{Extends}
 use Rattle.room_link.proofs.HeldLemmas.{Extends-trans}
 use Rattle.rec_format.specs.Outs.{line_text}
-use Rattle.rooms.specs.Replay.{IsFront}
 use Rattle.rooms.specs.Texts.{lines_text, written_line}
 use Rattle.rooms.proofs.WritingLemmas.{front_of_lines, front_more, text_more, first_bytes}
 use Rattle.rooms.proofs.writing.write_lines.Goals as goal

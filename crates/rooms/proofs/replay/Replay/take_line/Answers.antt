@@ -1,7 +1,6 @@
-use Rattle.std.proofs.Common.{◌≡◌, Some, true, false, sym, subst, ◌∙◌}
-use Rattle.rooms.specs.Taking.{is_passed_by}
+use Rattle.std.proofs.Common.{Some, sym, subst, ◌∙◌}
 use Rattle.rooms.specs.Replies.{Reads}
-use Rattle.rooms.proofs.TakingLemmas.{if_ok, becomes_nothing, becomes_header, becomes_later}
+use Rattle.rooms.proofs.TakingLemmas.{if_ok, becomes_nothing, becomes_later}
 use Rattle.rooms.proofs.replay.Replay.take_line.Goals as goal
 
 pub returns-then-is_passed_by-clause-taken : goal.returns-then-is_passed_by-clause-taken
