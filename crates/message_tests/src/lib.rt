@@ -2,6 +2,8 @@
 #![tactic(auto)]
 
 #[cfg(test)]
+mod made;
+#[cfg(test)]
 mod messages;
 #[cfg(test)]
 mod recordings;

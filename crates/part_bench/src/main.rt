@@ -10,29 +10,36 @@
 //!   `make` makes the same client and messages and takes none. They come to how many edits are pending.
 //! - `read_data` reads at each call a data message with SIZE patches, and `print_data` prints it. They
 //!   come to how many events were read, or how many bytes were printed.
+//! - `marks` keeps at each call the inverse of an edit of one of SIZE shapes, without a mark. It comes to how many shapes an undo
+//!   of all of them changes.
 //! - `cut` cuts a text of SIZE bytes into pieces at each call, and puts them together again. It comes to
 //!   how many bytes came together.
+//! - `compute` sets one of SIZE atoms of a `Graph` at each call, STEP further than that of the call before,
+//!   and asks for ten keys that hang on it. It comes to the sum of their values.
 //!
 //! The program prints its words, and what they come to.
 #![tactic(auto)]
 
 mod clients;
 mod cutting;
+mod marks;
 mod messages;
 mod rooms;
+mod signals;
 mod touching;
 
 use clients::taken;
 use cutting::cut;
 use rooms::pushed;
 use rooms_val::{Mem, Text};
+use signals::computed;
 use std::alloc::Global;
 use std::process::ExitCode;
 use std::{env, io};
 use touching::{Calls, copied, touched};
 
 const USAGE: &str =
-    "usage: part_bench touch|copy|push|take|make|read_data|print_data|cut SIZE CALLS STEP";
+    "usage: part_bench touch|copy|push|take|make|read_data|print_data|marks|cut|compute SIZE CALLS STEP";
 
 /// Which call is done many times.
 #[derive(Clone, Copy)]
@@ -44,7 +51,9 @@ enum Call {
     Make,
     ReadData,
     PrintData,
+    Marks,
     Cut,
+    Compute,
 }
 
 impl Call {
@@ -58,7 +67,9 @@ impl Call {
             "make" => Some(Call::Make),
             "read_data" => Some(Call::ReadData),
             "print_data" => Some(Call::PrintData),
+            "marks" => Some(Call::Marks),
             "cut" => Some(Call::Cut),
+            "compute" => Some(Call::Compute),
             _ => None,
         }
     }
@@ -73,7 +84,9 @@ impl Call {
             Call::Make => "make",
             Call::ReadData => "read_data",
             Call::PrintData => "print_data",
+            Call::Marks => "marks",
             Call::Cut => "cut",
+            Call::Compute => "compute",
         }
     }
 
@@ -87,7 +100,9 @@ impl Call {
             Call::Make => clients::made(alloc, &made(alloc, size)?, calls),
             Call::ReadData => messages::read(alloc, &made(alloc, size)?, calls.count),
             Call::PrintData => messages::printed(alloc, &made(alloc, size)?, calls.count),
+            Call::Marks => marks::kept(alloc, &made(alloc, size)?, calls),
             Call::Cut => cut(alloc, size, calls.count),
+            Call::Compute => computed(alloc, size, calls),
         }
     }
 }

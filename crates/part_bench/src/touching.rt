@@ -40,6 +40,14 @@ pub(crate) struct Calls {
 }
 
 impl Calls {
+    /// The number of a call among so many, or 0 where there are none.
+    pub(crate) fn number(self, count: u32, call: u32) -> u32 {
+        if count == 0 {
+            return 0;
+        }
+        (u64::from(call) * u64::from(self.step) % u64::from(count)) as u32
+    }
+
     /// The id of a call, where there are ids.
     pub(crate) fn id(self, ids: &[Text], call: u32) -> Option<&Text> {
         let count = ids.len() as u64;
