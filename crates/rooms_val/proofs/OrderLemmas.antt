@@ -1,10 +1,10 @@
 -- How two lists or two maps stand, by what is left of both from a place on; and that equal values are the same.
-use Rattle.std.proofs.Common.{◌≡◌, ℕ, ◌+◌, ◌<◌, ◌≤◌, List, [], length, get_or, drop, drop-cons, Some, None, slice_get, Ordering, Less, Equal, Greater, is_eq, refl, sym, ap, ◌∙◌}
+use Rattle.std.proofs.Common.{◌≡◌, ℕ, ◌+◌, ◌<◌, ◌≤◌, List, [], ◌∷◌, length, get_or, drop, drop-cons, Some, None, slice_get, Ordering, Less, Equal, Greater, is_eq, suc, lt-ltb, arith, refl, sym, ap, ◌∙◌}
 use Rattle.std.specs.Prelude.{IsTrue, ◌↔◌}
 use Rattle.std.specs.Cmp.{IsTotalOrder, Equal-is, tied_itself}
-use Rattle.std.specs.Ordering.{ordering_then, eq_by_cmp, on}
+use Rattle.std.specs.Ordering.{nat_cmp, ordering_then, eq_by_cmp, on}
 use Rattle.std.proofs.lemmas.List.{drop_all}
-use Rattle.rooms_val.specs.Data.{Data, null, boolean, whole, text, list, map, Pairs, items_of, list_of, members_of, pairs_of}
+use Rattle.rooms_val.specs.Data.{Data, null, boolean, whole, text, list, map, Pairs, no_items, no_members, items_of, list_of, members_of, pairs_of}
 use Rattle.rooms_val.specs.Maps.{order}
 use Rattle.rooms_val.specs.Order.{data_cmp, items_cmp, members_cmp}
 use Rattle.rooms_val.specs.OrderLaws.{same_data, same_items, same_members, data_total, items_total, members_total}
@@ -19,6 +19,15 @@ pub decided : (o p : Ordering) → (o ≡ Equal → ⊥) → ordering_then o p �
 decided Less p apart = refl
 decided Equal p apart = absurd (apart refl)
 decided Greater p apart = refl
+
+-- nothing stands to a list or a map as its length does to that
+pub no_items_before : (ds : List Data) → nat_cmp 0 (length ds) ≡ items_cmp no_items (items_of ds)
+no_items_before [] = refl
+no_items_before (d ∷ ds) = rw (lt-ltb 0 (suc (length ds)) (omega arith)) refl
+
+pub no_members_before : (ps : Pairs) → nat_cmp 0 (length ps) ≡ members_cmp no_members (members_of ps)
+no_members_before [] = refl
+no_members_before (p ∷ ps) = rw (lt-ltb 0 (suc (length ps)) (omega arith)) refl
 
 abbrev pub items_left : List Val → List Data → ℕ → Ordering
 items_left vs ds i = items_cmp (items_of (items_view (drop i vs))) (items_of (drop i ds))

@@ -1,6 +1,7 @@
 pub mod Maps
 pub mod Data
 pub mod Code
+pub mod Shared
 pub mod View
 pub mod Falls
 pub mod Kinds

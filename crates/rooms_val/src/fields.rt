@@ -1,5 +1,8 @@
 //! The keys of a map with their values.
-ghost use Rattle.std.specs.Prelude.{◌≡◌, ◌^◌, ◌-◌, min, [], length, IfOk, OnOk, OnErr, option_map, slice_get, IsTrue, ◌↔◌};
+ghost use Rattle.std.specs.Prelude.{◌≡◌, ◌^◌, ◌-◌, min, [], ◌∷◌, length, IfOk, OnOk, OnErr, option_map, slice_get, IsTrue, ◌↔◌};
+ghost use Rattle.rooms_val.specs.Data.{members_of, IsSound, map};
+ghost use Rattle.rooms_val.specs.Maps.{value_at, with_key, without_key};
+ghost use Rattle.rooms_val.specs.View.{data_of, pairs_view};
 
 use crate::entries;
 use crate::memory::Mem;
@@ -9,12 +12,17 @@ use serde_json::{Map, Value};
 use std::alloc::Global;
 use std::cmp::Ordering;
 use std::marker::Model;
+use std::sync::Arc;
 
-/// A map from texts to values. Contracts see its pairs, whose keys rise by bytes.
+/// A map from texts to values, which its copies share until one of them is changed. Contracts see its pairs, whose keys rise
+/// by bytes.
 #[cycle(val)]
 #[derive(Drop)]
 pub struct Fields {
-    entries: Vec<(Text, Val)>,
+    // Where memory is taken.
+    alloc: Global,
+    // The keys with their values, and nothing where none was added.
+    entries: Option<Arc<Vec<(Text, Val)>>>,
 }
 
 impl Model for Fields {
@@ -26,26 +34,24 @@ impl Model for Fields {
 
     ghost coded = { coded_pairs };
 
+    ghost use Rattle.rooms_val.specs.Shared.{held};
     ghost use Rattle.rooms_val.specs.View.{pairs_view};
 
-    ghost view = { λ f. pairs_view f.entries.items };
+    ghost view = { λ f. pairs_view (held f.entries) };
 
-    ghost invariant = { λ f. IsSound (map (members_of (pairs_view f.entries.items))) };
+    ghost invariant = { λ f. IsSound (map (members_of (pairs_view (held f.entries)))) };
 
     ghost size = { λ ps. suc (members_depth (members_of ps)) };
 
-    ghost use Rattle.rooms_val.specs.Falls.{pairs_fall};
+    ghost use Rattle.rooms_val.specs.Falls.{fields_fall};
 
-    ghost size_decreases = { λ f h. pairs_fall f.entries.items };
+    ghost size_decreases = { λ f h. fields_fall f.alloc f.entries };
 }
 
 impl Fields {
-    ghost use Rattle.rooms_val.specs.Data.{members_of, IsSound, map};
     ghost use Rattle.rooms_val.specs.Kinds.{text_at, number_at};
-    ghost use Rattle.rooms_val.specs.Maps.{value_at, with_key, without_key};
     ghost use Rattle.rooms_val.specs.Json.{json_members};
     ghost use Rattle.rooms_val.specs.Order.{members_cmp};
-    ghost use Rattle.rooms_val.specs.View.{data_of, pairs_view};
     ghost use Rattle.rooms_val.specs.Weight.{members_weight};
     ghost use Rattle.serde_json.specs.View.{members_view};
 
@@ -54,7 +60,8 @@ impl Fields {
         ensures { result ≡ [] }
     {
         Fields {
-            entries: Vec::new(alloc),
+            alloc,
+            entries: None,
         }
     }
 
@@ -63,21 +70,21 @@ impl Fields {
         ensures count { result ≡ length self.now }
         ensures sound { IsSound (map (members_of self.now)) }
     {
-        self.entries.len()
+        self.as_slice().len()
     }
 
     /// Whether it has no key.
     pub fn is_empty(&self) -> bool
         ensures { IsTrue result ↔ (self.now ≡ []) }
     {
-        self.entries.is_empty()
+        self.as_slice().is_empty()
     }
 
     /// The key at a place with its value; places count from 0 in the order of the keys. `None` exactly past the end.
     pub fn at(&self, place: usize) -> Option<(&Text, &Val)>
         ensures { option_map (λ e. (e.0.now, data_of e.1.now)) result ≡ slice_get self.now place }
     {
-        let entry = self.entries.get(place)?;
+        let entry = self.as_slice().get(place)?;
         Some((&entry.0, &entry.1))
     }
 
@@ -86,21 +93,31 @@ impl Fields {
         ensures pairs { pairs_view result.now ≡ self.now }
         ensures sound { IsSound (map (members_of self.now)) }
     {
-        &self.entries
+        match &self.entries {
+            Some(entries) => entries,
+            None => &[],
+        }
     }
 
-    /// The keys with their values in order, given back without taking memory.
-    pub fn into_vec(self) -> Vec<(Text, Val)>
-        ensures { pairs_view result.items ≡ self }
+    /// The keys with their values in order. It costs nothing if no copy shares them, and else a copy of each.
+    pub fn into_vec(self) -> Mem<Vec<(Text, Val)>>
+        ensures { IfOk result (λ v. pairs_view v.items ≡ self) }
     {
-        self.entries
+        let Fields { alloc, entries } = self;
+        let Some(entries) = entries else {
+            return Ok(Vec::new(alloc));
+        };
+        match Arc::try_unwrap(entries) {
+            Ok(entries) => Ok(entries),
+            Err(shared) => copied(alloc, &shared, 0),
+        }
     }
 
     /// The value under a key. `None` exactly if the map lacks the key. It costs a logarithm of the map's size.
     pub fn get(&self, key: &str) -> Option<&Val>
         ensures { option_map (λ v. data_of v.now) result ≡ value_at self.now key.now }
     {
-        entries::get(&self.entries, key)
+        entries::get(self.as_slice(), key)
     }
 
     /// The text under a key. `None` exactly if the map lacks the key or has another kind of value there. It costs a
@@ -120,7 +137,7 @@ impl Fields {
     }
 
     /// Sets the value under a key, and returns the one before. Where memory is refused the map is as before. A key
-    /// beyond all others is added at the cost of one comparison.
+    /// beyond all others is added at the cost of one comparison. If copies share the map, it costs a copy of each value.
     pub fn put(&mut self, key: Text, val: Val) -> Mem<Option<Val>>
         ensures old { IfOk result (λ v. option_map data_of v ≡ value_at self.old key) }
         ensures ok { OnOk result (self.new ≡ with_key self.old key (data_of val)) }
@@ -128,28 +145,56 @@ impl Fields {
     {
         // That a value is sound is told by its kind.
         let _ = val.kind();
-        let old = entries::put(&mut self.entries, key, val)?;
-        Ok(old)
+        let Some(entries) = &mut self.entries else {
+            self.entries = Some(Arc::new(self.alloc, one(self.alloc, key, val)?)?);
+            return Ok(None);
+        };
+        match Arc::get_mut(entries) {
+            Some(entries) => put_in(entries, key, val),
+            None => {
+                let mut more = copied(self.alloc, entries, 1)?;
+                let old = put_in(&mut more, key, val)?;
+                *entries = Arc::new(self.alloc, more)?;
+                Ok(old)
+            }
+        }
     }
 
-    /// Takes a key away, and returns the value that it had. `None` exactly if the map lacks the key.
-    pub fn take(&mut self, key: &str) -> Option<Val>
-        ensures old { option_map data_of result ≡ value_at self.old key.now }
-        ensures rest { self.new ≡ without_key self.old key.now }
+    /// Takes a key away, and returns the value that it had. `None` exactly if the map lacks the key. Where memory is refused
+    /// the map is as before; it is taken only if copies share the map, and then it costs a copy of each value.
+    pub fn take(&mut self, key: &str) -> Mem<Option<Val>>
+        ensures old { IfOk result (λ v. option_map data_of v ≡ value_at self.old key.now) }
+        ensures ok { OnOk result (self.new ≡ without_key self.old key.now) }
+        ensures err { OnErr result (self.new ≡ self.old) }
     {
-        entries::take(&mut self.entries, key)
+        let Some(entries) = &mut self.entries else {
+            return Ok(None);
+        };
+        match Arc::get_mut(entries) {
+            Some(entries) => Ok(take_from(entries, key)),
+            None => {
+                let mut rest = copied(self.alloc, entries, 0)?;
+                let old = take_from(&mut rest, key);
+                *entries = Arc::new(self.alloc, rest)?;
+                Ok(old)
+            }
+        }
     }
 
-    /// An equal map.
-    #[cycle(copy)]
+    /// An equal map, at the cost of counting one more owner. It takes no memory.
     pub fn copy(&self, alloc: Global) -> Mem<Fields>
         ensures { IfOk result (λ f. f ≡ self.now) }
     {
-        let mut entries = Vec::with_capacity(alloc, self.entries.len())?;
-        for (key, val) in &self.entries {
-            entries.push((key.copy(alloc)?, val.copy(alloc)?))?;
+        match &self.entries {
+            None => Ok(Fields {
+                alloc,
+                entries: None,
+            }),
+            Some(entries) => Ok(Fields {
+                alloc,
+                entries: Some(Arc::try_clone(entries)?),
+            }),
         }
-        Ok(Fields { entries })
     }
 
     /// What its keys and values weigh together, 2^64 - 1 where that is more.
@@ -157,8 +202,11 @@ impl Fields {
     pub fn weight(&self) -> u64
         ensures { result ≡ min (members_weight (members_of self.now)) (2 ^ 64 - 1) }
     {
+        let Some(entries) = &self.entries else {
+            return 0;
+        };
         let mut total = 0u64;
-        for (key, val) in &self.entries {
+        for (key, val) in &**entries {
             total = total
                 .saturating_add(key.as_str().len() as u64)
                 .saturating_add(val.weight());
@@ -171,8 +219,11 @@ impl Fields {
     pub(crate) fn compare(&self, other: &Fields) -> Ordering
         ensures { result ≡ members_cmp (members_of self.now) (members_of other.now) }
     {
+        let Some(entries) = &self.entries else {
+            return 0usize.cmp(&other.len());
+        };
         let mut place = 0;
-        'fields: for (key, val) in &self.entries {
+        'fields: for (key, val) in &**entries {
             let Some((their_key, theirs)) = other.at(place) else {
                 return Ordering::Greater;
             };
@@ -198,10 +249,56 @@ impl Fields {
         ensures { IfOk result (λ json. members_view json.entries ≡ json_members (members_of self.now)) }
     {
         let mut json = Map::new(alloc);
-        for (key, val) in &self.entries {
+        let Some(entries) = &self.entries else {
+            return Ok(json);
+        };
+        for (key, val) in &**entries {
             let name = String::from_str(alloc, key.as_str())?;
             drop(json.insert(name, val.to_json(alloc)?)?);
         }
         Ok(json)
     }
+}
+
+// A vector of one key with its value.
+fn one(alloc: Global, key: Text, val: Val) -> Mem<Vec<(Text, Val)>>
+    ensures { IfOk result (λ v. v.items ≡ (key, val) ∷ []) }
+{
+    let mut entries = Vec::with_capacity(alloc, 1)?;
+    entries.push((key, val))?;
+    Ok(entries)
+}
+
+// Copies of some keys with their values, with room for so many more.
+fn copied(alloc: Global, entries: &[(Text, Val)], more: usize) -> Mem<Vec<(Text, Val)>>
+    ensures { IfOk result (λ v. pairs_view v.items ≡ pairs_view entries.now) }
+{
+    let mut copies = Vec::with_capacity(alloc, entries.len().saturating_add(more))?;
+    'entries: for (key, val) in entries {
+        copies.push((key.copy(alloc)?, val.copy(alloc)?))?;
+    }
+    Ok(copies)
+}
+
+// Sets a sound value under a key of a sound map, and returns the one before. Where memory is refused nothing changes.
+fn put_in(entries: &mut Vec<(Text, Val)>, key: Text, val: Val) -> Mem<Option<Val>>
+    requires map { IsSound (map (members_of (pairs_view entries.old.items))) }
+    requires val { IsSound (data_of val) }
+    ensures old { IfOk result (λ v. option_map data_of v ≡ value_at (pairs_view entries.old.items) key) }
+    ensures ok { OnOk result (pairs_view entries.new.items ≡ with_key (pairs_view entries.old.items) key (data_of val)) }
+    ensures sound { IsSound (map (members_of (pairs_view entries.new.items))) }
+    ensures err { OnErr result (entries.new.items ≡ entries.old.items) }
+{
+    let old = entries::put(entries, key, val)?;
+    Ok(old)
+}
+
+// Takes a key out of a sound map, and returns the value that it had.
+fn take_from(entries: &mut Vec<(Text, Val)>, key: &str) -> Option<Val>
+    requires { IsSound (map (members_of (pairs_view entries.old.items))) }
+    ensures old { option_map data_of result ≡ value_at (pairs_view entries.old.items) key.now }
+    ensures rest { pairs_view entries.new.items ≡ without_key (pairs_view entries.old.items) key.now }
+    ensures sound { IsSound (map (members_of (pairs_view entries.new.items))) }
+{
+    entries::take(entries, key)
 }

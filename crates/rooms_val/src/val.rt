@@ -107,8 +107,7 @@ impl Val {
         }
     }
 
-    /// An equal value.
-    #[cycle(copy)]
+    /// An equal value, at the cost of counting one more owner. It takes no memory.
     pub fn copy(&self, alloc: Global) -> Mem<Val>
         ensures { IfOk result (λ v. data_of v ≡ data_of self.now) }
     {

@@ -1,5 +1,7 @@
 //! The values of a list.
 ghost use Rattle.std.specs.Prelude.{◌≡◌, ◌^◌, ◌-◌, min, [], ◌∷◌, ◌++◌, length, IfOk, OnOk, OnErr, option_map, slice_get, IsTrue, ◌↔◌};
+ghost use Rattle.rooms_val.specs.Data.{items_of, AreSoundItems, IsSound};
+ghost use Rattle.rooms_val.specs.View.{data_of, items_view};
 
 use crate::memory::Mem;
 use crate::val::Val;
@@ -7,12 +9,16 @@ use serde_json::Value;
 use std::alloc::Global;
 use std::cmp::Ordering;
 use std::marker::Model;
+use std::sync::Arc;
 
-/// A list of values. Contracts see the list of what they stand for.
+/// A list of values, which its copies share until one of them is changed. Contracts see the list of what they stand for.
 #[cycle(val)]
 #[derive(Drop)]
 pub struct Vals {
-    items: Vec<Val>,
+    // Where memory is taken.
+    alloc: Global,
+    // The values, and nothing where none was added.
+    items: Option<Arc<Vec<Val>>>,
 }
 
 impl Model for Vals {
@@ -24,24 +30,23 @@ impl Model for Vals {
 
     ghost coded = { coded_items };
 
+    ghost use Rattle.rooms_val.specs.Shared.{held};
     ghost use Rattle.rooms_val.specs.View.{items_view};
 
-    ghost view = { λ v. items_view v.items.items };
+    ghost view = { λ v. items_view (held v.items) };
 
-    ghost invariant = { λ v. AreSoundItems (items_of (items_view v.items.items)) };
+    ghost invariant = { λ v. AreSoundItems (items_of (items_view (held v.items))) };
 
     ghost size = { λ ds. suc (items_depth (items_of ds)) };
 
-    ghost use Rattle.rooms_val.specs.Falls.{items_fall};
+    ghost use Rattle.rooms_val.specs.Falls.{vals_fall};
 
-    ghost size_decreases = { λ v h. items_fall v.items.items };
+    ghost size_decreases = { λ v h. vals_fall v.alloc v.items };
 }
 
 impl Vals {
-    ghost use Rattle.rooms_val.specs.Data.{items_of, AreSoundItems};
     ghost use Rattle.rooms_val.specs.Json.{json_items};
     ghost use Rattle.rooms_val.specs.Order.{items_cmp};
-    ghost use Rattle.rooms_val.specs.View.{data_of, items_view};
     ghost use Rattle.rooms_val.specs.Weight.{items_weight};
     ghost use Rattle.serde_json.specs.View.{items_view as json_view};
 
@@ -49,9 +54,7 @@ impl Vals {
     pub fn new(alloc: Global) -> Vals
         ensures { result ≡ [] }
     {
-        Vals {
-            items: Vec::new(alloc),
-        }
+        Vals { alloc, items: None }
     }
 
     /// How many values it has.
@@ -59,21 +62,21 @@ impl Vals {
         ensures count { result ≡ length self.now }
         ensures sound { AreSoundItems (items_of self.now) }
     {
-        self.items.len()
+        self.as_slice().len()
     }
 
     /// Whether it has no value.
     pub fn is_empty(&self) -> bool
         ensures { IsTrue result ↔ (self.now ≡ []) }
     {
-        self.items.is_empty()
+        self.as_slice().is_empty()
     }
 
     /// The value at a place, counted from 0. `None` exactly past the end.
     pub fn at(&self, place: usize) -> Option<&Val>
         ensures { option_map (λ v. data_of v.now) result ≡ slice_get self.now place }
     {
-        self.items.get(place)
+        self.as_slice().get(place)
     }
 
     /// The values in order.
@@ -81,37 +84,60 @@ impl Vals {
         ensures values { items_view result.now ≡ self.now }
         ensures sound { AreSoundItems (items_of self.now) }
     {
-        &self.items
+        match &self.items {
+            Some(items) => items,
+            None => &[],
+        }
     }
 
-    /// The values in order, given back without taking memory.
-    pub fn into_vec(self) -> Vec<Val>
-        ensures { items_view result.items ≡ self }
+    /// The values in order. It costs nothing if no copy shares them, and else a copy of each.
+    pub fn into_vec(self) -> Mem<Vec<Val>>
+        ensures { IfOk result (λ v. items_view v.items ≡ self) }
     {
-        self.items
+        let Vals { alloc, items } = self;
+        let Some(items) = items else {
+            return Ok(Vec::new(alloc));
+        };
+        match Arc::try_unwrap(items) {
+            Ok(items) => Ok(items),
+            Err(shared) => copied(alloc, &shared, 0),
+        }
     }
 
-    /// Adds a value at the end. Where memory is refused the list is as before.
+    /// Adds a value at the end. Where memory is refused the list is as before. If copies share the list, it costs a copy of
+    /// each value.
     pub fn push(&mut self, val: Val) -> Mem<()>
         ensures ok { OnOk result (self.new ≡ self.old ++ data_of val ∷ []) }
         ensures err { OnErr result (self.new ≡ self.old) }
     {
         // That a value is sound is told by its kind.
         let _ = val.kind();
-        self.items.push(val)?;
-        Ok(())
+        let Some(items) = &mut self.items else {
+            self.items = Some(Arc::new(self.alloc, one(self.alloc, val)?)?);
+            return Ok(());
+        };
+        match Arc::get_mut(items) {
+            Some(items) => add(items, val),
+            None => {
+                let mut more = copied(self.alloc, items, 1)?;
+                add(&mut more, val)?;
+                *items = Arc::new(self.alloc, more)?;
+                Ok(())
+            }
+        }
     }
 
-    /// An equal list.
-    #[cycle(copy)]
+    /// An equal list, at the cost of counting one more owner. It takes no memory.
     pub fn copy(&self, alloc: Global) -> Mem<Vals>
         ensures { IfOk result (λ v. v ≡ self.now) }
     {
-        let mut items = Vec::with_capacity(alloc, self.items.len())?;
-        for item in &self.items {
-            items.push(item.copy(alloc)?)?;
+        match &self.items {
+            None => Ok(Vals { alloc, items: None }),
+            Some(items) => Ok(Vals {
+                alloc,
+                items: Some(Arc::try_clone(items)?),
+            }),
         }
-        Ok(Vals { items })
     }
 
     /// What its values weigh together, 2^64 - 1 where that is more.
@@ -119,8 +145,11 @@ impl Vals {
     pub fn weight(&self) -> u64
         ensures { result ≡ min (items_weight (items_of self.now)) (2 ^ 64 - 1) }
     {
+        let Some(items) = &self.items else {
+            return 0;
+        };
         let mut total = 0u64;
-        for item in &self.items {
+        for item in &**items {
             total = total.saturating_add(item.weight());
         }
         total
@@ -131,8 +160,11 @@ impl Vals {
     pub(crate) fn compare(&self, other: &Vals) -> Ordering
         ensures { result ≡ items_cmp (items_of self.now) (items_of other.now) }
     {
+        let Some(items) = &self.items else {
+            return 0usize.cmp(&other.len());
+        };
         let mut place = 0;
-        'items: for item in &self.items {
+        'items: for item in &**items {
             let Some(theirs) = other.at(place) else {
                 return Ordering::Greater;
             };
@@ -153,10 +185,44 @@ impl Vals {
     pub(crate) fn to_json(&self, alloc: Global) -> Mem<Vec<Value>>
         ensures { IfOk result (λ json. json_view json.items ≡ json_items (items_of self.now)) }
     {
-        let mut json = Vec::with_capacity(alloc, self.items.len())?;
-        for item in &self.items {
+        let mut json = Vec::with_capacity(alloc, self.len())?;
+        let Some(items) = &self.items else {
+            return Ok(json);
+        };
+        for item in &**items {
             json.push(item.to_json(alloc)?)?;
         }
         Ok(json)
     }
+}
+
+// A vector of one value.
+fn one(alloc: Global, val: Val) -> Mem<Vec<Val>>
+    ensures { IfOk result (λ v. v.items ≡ val ∷ []) }
+{
+    let mut items = Vec::with_capacity(alloc, 1)?;
+    items.push(val)?;
+    Ok(items)
+}
+
+// Copies of some values, with room for so many more.
+fn copied(alloc: Global, items: &[Val], more: usize) -> Mem<Vec<Val>>
+    ensures { IfOk result (λ v. items_view v.items ≡ items_view items.now) }
+{
+    let mut copies = Vec::with_capacity(alloc, items.len().saturating_add(more))?;
+    'items: for item in items {
+        copies.push(item.copy(alloc)?)?;
+    }
+    Ok(copies)
+}
+
+// Adds a sound value at the end of sound ones. Where memory is refused nothing changes.
+fn add(items: &mut Vec<Val>, val: Val) -> Mem<()>
+    requires { AreSoundItems (items_of (items_view items.old.items)) × IsSound (data_of val) }
+    ensures ok { OnOk result (items.new.items ≡ items.old.items ++ val ∷ []) }
+    ensures sound { AreSoundItems (items_of (items_view items.new.items)) }
+    ensures err { OnErr result (items.new.items ≡ items.old.items) }
+{
+    items.push(val)?;
+    Ok(())
 }
