@@ -2,6 +2,7 @@ pub mod WalkLemmas
 pub mod SoundLemmas
 pub mod FallsLemmas
 pub mod PatchedLemmas
+pub mod ApplyLemmas
 pub mod WireLemmas
 pub mod ComposeLemmas
 pub mod ReadingLemmas

@@ -2,35 +2,33 @@
 ghost use Rattle.std.specs.Prelude.{◌≡◌, ◌++◌, IfOk, OnOk};
 ghost use Rattle.std.specs.Option.{option_copied};
 ghost use Rattle.rooms_val.specs.View.{data_of};
-ghost use Rattle.rooms_val.specs.Maps.{added};
+ghost use Rattle.rooms_val.specs.Maps.{set_at};
 ghost use Rattle.field_ops.specs.ValueOps.{edits_of};
-ghost use Rattle.field_ops.specs.View.{maybe_data, maybe_edit};
+ghost use Rattle.field_ops.specs.View.{edit_of, maybe_data};
 ghost use Rattle.field_ops.specs.ViewRecordOps.{change_of};
 ghost use Rattle.rooms_val.specs.Kinds.{on_map};
-ghost use Rattle.field_ops.specs.Patched.{appended, patched, value_after, raw};
+ghost use Rattle.field_ops.specs.Patched.{appended, edited, patched, raw};
 
 use crate::object_diff::ObjectDiff;
 use crate::record_op::RecordOp;
 use crate::value_op::ValueOp;
-use crate::walk::take_least;
 use rooms_val::{Fields, Mem, Text, Val, Vals};
 use std::alloc::Global;
 
-/// The map under a patch: each key that the patch names is set to what its operation makes of its value. It takes time
-/// in proportion to both.
+/// The map under a patch: each key that the patch names is set to what its operation makes of its value. It costs a copy of
+/// each value of the map, which shares it, and a logarithm of the map for each key that the patch names.
 #[cycle(apply)]
 pub fn apply_object(alloc: Global, map: &Fields, diff: &ObjectDiff) -> Mem<Fields>
     ensures { IfOk result (λ f. f ≡ patched (edits_of diff.now) map.now) }
 {
-    let mut result = Fields::new(alloc);
-    let mut fields = map.as_slice();
-    let mut ops = diff.as_slice();
-    'keys: while let Some(next) = take_least(fields, ops) {
-        let val = edited(alloc, next.left, next.right)?;
-        keep(alloc, &mut result, next.key, val)?;
-        fields = next.lefts;
-        ops = next.rights;
+    // That the keys rise is told by the length.
+    let _ = map.len();
+    let mut result = map.copy(alloc)?;
+    'ops: for (key, op) in diff.as_slice() {
+        let val = edited(alloc, result.get(key.as_str()), op)?;
+        set(alloc, &mut result, key, val)?;
     }
+    let _ = result.len();
     Ok(result)
 }
 
@@ -60,24 +58,22 @@ pub(crate) fn patched_val(alloc: Global, val: &Val, diff: &ObjectDiff) -> Mem<Va
     }
 }
 
-// Puts what there is under a key.
-fn keep(alloc: Global, fields: &mut Fields, key: &Text, found: Option<Val>) -> Mem<()>
-    ensures { OnOk result (fields.new ≡ added fields.old key.now (maybe_data found)) }
+// Sets the value under a key, or takes it away.
+fn set(alloc: Global, fields: &mut Fields, key: &Text, val: Option<Val>) -> Mem<()>
+    ensures { OnOk result (fields.new ≡ set_at fields.old key.now (maybe_data val)) }
 {
-    if let Some(val) = found {
-        fields.put(key.copy(alloc)?, val)?;
+    match val {
+        Some(val) => drop(fields.put(key.copy(alloc)?, val)?),
+        None => drop(fields.take(key.as_str())?),
     }
     Ok(())
 }
 
-// What the value at a key becomes, where perhaps an operation names the key.
+// What an operation makes of the value at a key, or of none.
 #[cycle(apply)]
-fn edited(alloc: Global, old: Option<&Val>, named: Option<&ValueOp>) -> Mem<Option<Val>>
-    ensures { IfOk result (λ v. maybe_data v ≡ value_after (maybe_edit (option_copied named.entry)) (maybe_data (option_copied old.entry))) }
+fn edited(alloc: Global, old: Option<&Val>, op: &ValueOp) -> Mem<Option<Val>>
+    ensures { IfOk result (λ v. maybe_data v ≡ edited (edit_of op.now) (maybe_data (option_copied old.entry))) }
 {
-    let Some(op) = named else {
-        return copied(alloc, old);
-    };
     match op {
         ValueOp::Put(val) => Ok(Some(val.copy(alloc)?)),
         ValueOp::Patch(diff) => match old {
@@ -89,16 +85,6 @@ fn edited(alloc: Global, old: Option<&Val>, named: Option<&ValueOp>) -> Mem<Opti
             None => Ok(None),
         },
         ValueOp::Delete => Ok(None),
-    }
-}
-
-// An equal value, where there is one.
-fn copied(alloc: Global, old: Option<&Val>) -> Mem<Option<Val>>
-    ensures { IfOk result (λ v. maybe_data v ≡ maybe_data (option_copied old.entry)) }
-{
-    match old {
-        Some(val) => Ok(Some(val.copy(alloc)?)),
-        None => Ok(None),
     }
 }
 
