@@ -117,7 +117,7 @@ fn set(alloc: Global, others: &mut Fields, id: &Text, after: Option<Val>) -> Mem
 {
     match after {
         Some(val) => drop(others.put(id.copy(alloc)?, val)?),
-        None => drop(others.take(id.as_str())),
+        None => drop(others.take(id.as_str())?),
     }
     Ok(())
 }

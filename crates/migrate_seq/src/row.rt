@@ -26,7 +26,7 @@ pub(crate) fn walk(alloc: Global, val: Val, path: &[Text], step: &MigStep, way: 
             [key, rest @ ..] => {
                 // That the keys rise is told by the length.
                 let _ = fields.len();
-                match fields.take(key.as_str()) {
+                match fields.take(key.as_str())? {
                     Some(inner) => {
                         let after = walk(alloc, inner, rest, step, way)?;
                         fields.put(key.copy(alloc)?, after)?;
@@ -57,7 +57,7 @@ fn change_up(alloc: Global, fields: &mut Fields, step: &MigStep) -> Mem<()>
     match step {
         MigStep::Add { key, val, .. } => add(alloc, fields, key, val),
         MigStep::Remove { key, .. } => {
-            let _ = fields.take(key.as_str());
+            let _ = fields.take(key.as_str())?;
             Ok(())
         }
         MigStep::Rename { old, new, .. } => rename(alloc, fields, old, new),
@@ -74,7 +74,7 @@ fn change_down(alloc: Global, fields: &mut Fields, step: &MigStep) -> Mem<()>
 {
     match step {
         MigStep::Add { key, .. } => {
-            let _ = fields.take(key.as_str());
+            let _ = fields.take(key.as_str())?;
             Ok(())
         }
         MigStep::Remove { key, val, .. } => add(alloc, fields, key, val),
@@ -98,7 +98,7 @@ fn add(alloc: Global, fields: &mut Fields, key: &Text, val: &Val) -> Mem<()>
 fn rename(alloc: Global, fields: &mut Fields, old: &Text, new: &Text) -> Mem<()>
     ensures { OnOk result (fields.new ≡ renamed old.now new.now fields.old) }
 {
-    if let Some(val) = fields.take(old.as_str()) {
+    if let Some(val) = fields.take(old.as_str())? {
         fields.put(new.copy(alloc)?, val)?;
     }
     Ok(())
@@ -114,7 +114,7 @@ fn replace(
     ensures { OnOk result (fields.new ≡ changed_at key.now (replaced (toward way pairs.now)) fields.old) }
 {
     let _ = fields.len();
-    if let Some(val) = fields.take(key.as_str()) {
+    if let Some(val) = fields.take(key.as_str())? {
         let after = replaced(alloc, val, pairs, way)?;
         fields.put(key.copy(alloc)?, after)?;
     }
@@ -153,7 +153,7 @@ fn scale_up(alloc: Global, fields: &mut Fields, key: &Text, factor: u32) -> Mem<
     ensures { OnOk result (fields.new ≡ changed_at key.now (scaled factor) fields.old) }
 {
     let _ = fields.len();
-    if let Some(val) = fields.take(key.as_str()) {
+    if let Some(val) = fields.take(key.as_str())? {
         fields.put(key.copy(alloc)?, scaled(val, factor))?;
     }
     Ok(())
@@ -173,7 +173,7 @@ fn scale_down(alloc: Global, fields: &mut Fields, key: &Text, factor: u32) -> Me
     ensures { OnOk result (fields.new ≡ changed_at key.now (divided factor) fields.old) }
 {
     let _ = fields.len();
-    if let Some(val) = fields.take(key.as_str()) {
+    if let Some(val) = fields.take(key.as_str())? {
         fields.put(key.copy(alloc)?, divided(val, factor))?;
     }
     Ok(())
@@ -213,7 +213,7 @@ fn unnest(alloc: Global, fields: &mut Fields, keys: &[Text], into: &Text) -> Mem
     ensures { OnOk result (fields.new ≡ unnested keys.now into.now fields.old) }
 {
     let _ = fields.len();
-    if let Some(val) = fields.take(into.as_str()) {
+    if let Some(val) = fields.take(into.as_str())? {
         match val {
             Val::Map(mut inner) => {
                 move_values(alloc, keys, &mut inner, fields)?;
@@ -241,7 +241,7 @@ fn move_values(alloc: Global, keys: &[Text], from: &mut Fields, to: &mut Fields)
 fn move_value(alloc: Global, key: &Text, from: &mut Fields, to: &mut Fields) -> Mem<()>
     ensures { OnOk result (moved_one key.now (from.old, to.old) ≡ (from.new, to.new)) }
 {
-    if let Some(val) = from.take(key.as_str()) {
+    if let Some(val) = from.take(key.as_str())? {
         to.put(key.copy(alloc)?, val)?;
     }
     Ok(())
