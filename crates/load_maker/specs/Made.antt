@@ -3,7 +3,7 @@ use Rattle.std.specs.Prelude.{ℕ, pos, false, List, [], ◌∷◌, ◌++◌, co
 use Rattle.std.specs.Prelude as std
 use Rattle.rooms_val.specs.Data.{whole, map, members_of}
 use Rattle.rooms_val.specs.declared.val.Val.TheVariants as val
-use Rattle.field_ops.specs.RecordOps.{RecordOpTree, put, patch, remove}
+use Rattle.field_ops.specs.RecordOps.{RecordOps, RecordOpTree, put, patch, remove}
 use Rattle.field_ops.specs.ValueOps as edit
 use Rattle.room_model.specs.declared.event.Event.{Event}
 use Rattle.room_model.specs.declared.event.Event.TheVariants as event
@@ -24,9 +24,13 @@ gets client = event.Send client ∷ event.Deliver client ∷ []
 abbrev pub enters : ℕ → List Event
 enters client = (event.Connect client false ∷ event.Handle client ∷ []) ++ gets client
 
+-- the edit that makes the page
+abbrev pub page_diff : RecordOps
+page_diff = (codes "page:p", put (map (members_of records.page))) ∷ []
+
 -- client 0 makes the page, and the room is told
 abbrev pub makes_page : List Event
-makes_page = event.Edit 0 ((codes "page:p", put (map (members_of records.page))) ∷ []) ∷ event.Handle 0 ∷ []
+makes_page = event.Edit 0 page_diff ∷ event.Handle 0 ∷ []
 
 -- the events before the draws: the clients come and enter one after another, client 0 makes the page, and each hears of it
 unfoldable pub first_events : List Event

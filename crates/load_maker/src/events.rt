@@ -2,7 +2,7 @@
 ghost use Rattle.std.specs.Prelude.{◌≡◌, ◌<◌, [], ◌∷◌, ◌++◌, map, IfOk, OnOk, false};
 ghost use Rattle.field_ops.specs.ViewRecordOps.{change_of};
 ghost use Rattle.room_model.specs.declared.event.Event.TheVariants as event;
-ghost use Rattle.load_maker.specs.Made.{versions, enters, gets, makes_page, edits, moves};
+ghost use Rattle.load_maker.specs.Made.{versions, enters, gets, page_diff, makes_page, edits, moves};
 ghost use Rattle.load_maker.specs.Made.{first_events, events_of};
 
 use crate::draw::{Act, Draw};
@@ -56,13 +56,21 @@ fn enter(events: &mut Vec<Event>, client: u64) -> Mem<()>
     get(events, client)
 }
 
-// Client 0 makes the page, and the room is told.
-fn make_page(alloc: Global, events: &mut Vec<Event>) -> Mem<()>
-    ensures { OnOk result (events.new.items ≡ events.old.items ++ makes_page) }
+// The edit that makes the page.
+fn page_diff(alloc: Global) -> Mem<Diff>
+    ensures { IfOk result (λ diff. diff ≡ page_diff) }
 {
     let page = RecordOp::Put(Val::Map(page(alloc)?));
     let mut diff = Diff::new(alloc);
     drop(diff.put(Text::of(alloc, "page:p")?, page)?);
+    Ok(diff)
+}
+
+// Client 0 makes the page, and the room is told.
+fn make_page(alloc: Global, events: &mut Vec<Event>) -> Mem<()>
+    ensures { OnOk result (events.new.items ≡ events.old.items ++ makes_page) }
+{
+    let diff = page_diff(alloc)?;
     events.push(Event::Edit { client: 0, diff })?;
     events.push(Event::Handle { session: 0 })?;
     Ok(())

@@ -1,7 +1,8 @@
 //! What goes with the records that an edit removes: the shapes and bindings that hang on them.
 ghost use Rattle.std.specs.Prelude.{◌≡◌, ◌<◌, ◌++◌, false, true, IfOk, OnOk, vec_len};
 ghost use Rattle.std.specs.List.{list_any};
-ghost use Rattle.field_ops.specs.RecordOps.{RecordOps};
+ghost use Rattle.rooms_val.specs.Maps.{with_key};
+ghost use Rattle.field_ops.specs.RecordOps.{RecordOps, remove};
 ghost use Rattle.doc_model.specs.Documents.{fold_raw};
 ghost use Rattle.side_effects.specs.Removed.{is_remove, with_removes};
 ghost use Rattle.side_effects.specs.Links.{Links, links, link_by, Sweeps, AreFree};
@@ -58,7 +59,7 @@ fn sweep(alloc: Global, links: &mut Links, all: &mut Diff) -> Mem<bool>
     let taken = std::mem::replace(links, Vec::new(alloc));
     'links: for (id, holder) in taken {
         if removes(all, holder.as_str()) {
-            all.put(id, RecordOp::Remove)?;
+            put_removal(all, id, holder)?;
             found = true;
         } else {
             left.push((id, holder))?;
@@ -66,6 +67,14 @@ fn sweep(alloc: Global, links: &mut Links, all: &mut Diff) -> Mem<bool>
     }
     *links = left;
     Ok(found)
+}
+
+// Removes the record of an id too, and lets go of what it hung on.
+fn put_removal(all: &mut Diff, id: Text, _holder: Text) -> Mem<()>
+    ensures { OnOk result (all.new ≡ with_key all.old id remove) }
+{
+    let _ = all.put(id, RecordOp::Remove)?;
+    Ok(())
 }
 
 // The links of the store's records, as these are after the diff.

@@ -15,7 +15,7 @@ links-preserved-then-removes c =
     let hit : removes c.links.all x.1 ≡ true = ap (removes c.links.all) (sym c.as_str.ensures.bytes) ∙ sym c.removes.ensures ∙ c.if-removes.true in
     record {
       swept = λ links_of old before.
-          subst (λ d. Sweeps links_of old (left ++ rest) d) (sym c.in_ok-put.ensures.ok)
+          subst (λ d. Sweeps links_of old (left ++ rest) d) (sym c.in_ok-put_removal.ensures)
           (sweeps_hit links_of old c.links.all left x rest (subst (λ r. Sweeps links_of old (left ++ r) c.links.all) is (c.links.invariant.swept links_of old before)) hit);
       free = λ never. absurd (let no : true ≡ false = never in (cc));
       fewer = let more = length_more left x rest in let whole = ap (λ r. length (left ++ r)) is in let known = c.links.invariant.fewer in omega arith;

@@ -32,7 +32,7 @@ move_to-requires-clause-linked c =
     in_lists inside.links.lists inside.entries.items inside.order.items inside.dead_count c.self.invariant.kept c.index-node.result.now own.in_order
 
 -- what a touch of a listed id leaves
-held : (c : goal.After-drop-id-inside) → Holds c.move_to.new.links.lists c.move_to.new.entries c.self.inside.order.items c.dead_without-self-inside.result (without_id c.args.id (changes_at c.self.inside.entries.items (list_at c.self.inside.links.lists 0)) ++ record { id = c.args.id; clock = c.args.clock; live = true } ∷ []) (without_id c.args.id (changes_at c.self.inside.entries.items (list_at c.self.inside.links.lists 1)))
+held : (c : goal.Joined-id) → Holds c.move_to.new.links.lists c.move_to.new.entries c.self.inside.order.items c.dead_without-self-inside.result (without_id c.args.id (changes_at c.self.inside.entries.items (list_at c.self.inside.links.lists 0)) ++ record { id = c.args.id; clock = c.args.clock; live = true } ∷ []) (without_id c.args.id (changes_at c.self.inside.entries.items (list_at c.self.inside.links.lists 1)))
 held c =
     let inside = c.self.inside in
     let node = c.index-node.result.now in
@@ -47,7 +47,7 @@ held c =
     rw (lists, entries) (touched inside.links.lists inside.entries.items inside.order.items inside.dead_count c.args.id node c.args.clock c.self.invariant.kept own latest c.dead_without-self-inside.result alive gone sound)
 
 -- the entries behind the slice that was written
-written : (c : goal.After-drop-id-inside) → take c.self.inside.entries.len (c.move_to.new.entries ++ drop (length c.move_to.new.entries) c.self.inside.entries.items) ≡ c.move_to.new.entries
+written : (c : goal.Joined-id) → take c.self.inside.entries.len (c.move_to.new.entries ++ drop (length c.move_to.new.entries) c.self.inside.entries.items) ≡ c.move_to.new.entries
 written c =
     take_at c.move_to.new.entries (drop (length c.move_to.new.entries) c.self.inside.entries.items) c.self.inside.entries.len (omega (arith, ap length c.move_to.ensures.entries, length-set c.deref_mut.result.now, c.deref_mut.ensures.len))
 
