@@ -1,5 +1,5 @@
 -- What calls leave, as contracts see it.
-use Rattle.std.proofs.Common.{◌≡◌, ℕ, zero, suc, ◌<◌, ◌⊎◌, inl, inr, Bool, true, false, List, [], ◌∷◌, ◌++◌, length, set, Option, Some, None, Contains, refl, sym, ◌∙◌, ap, subst, arith}
+use Rattle.std.proofs.Common.{◌≡◌, ◌≢◌, ℕ, zero, suc, ◌<◌, ◌⊎◌, inl, inr, Bool, true, false, List, [], ◌∷◌, ◌++◌, length, set, Option, Some, None, Contains, refl, sym, ◌∙◌, ap, subst, arith}
 use Rattle.std.specs.Prelude.{Result, Ok, Err, OnOk, IfOk, option_and_then}
 use Rattle.std.specs.List.{slice_get}
 use Rattle.std.specs.BTreeMap.{get, is_at}
@@ -16,10 +16,10 @@ use Rattle.signal_values.specs.declared.cells.Cells.{Cells}
 use Rattle.signal_values.specs.Cells.{IsFresh, HaveAtoms, IsSound, row_of, atoms_of}
 use Rattle.signal_values.specs.Kept.{IsLeft, IsFreshAt, IsRead, HasListed}
 use Rattle.signal_values.specs.Writes.{IsWritten, written_row, or_zero}
-use Rattle.signal_values.specs.Seen.{Seen, IsGot, IsValueAt, IsSet, risen}
+use Rattle.signal_values.specs.Seen.{Seen, IsGot, IsValueAt, IsSetAt}
 use Rattle.signal_values.proofs.ListLemmas.{set_same, set_other, get_keep, get_last, get_within}
 use Rattle.signal_values.proofs.MarkLemmas.{dec_row}
-use Rattle.signal_values.proofs.AtomLemmas.{IsExact, HasRow, HasNone, row_cases, atoms_same, atoms_there}
+use Rattle.signal_values.proofs.AtomLemmas.{IsExact, HasRow, HasNone, row_cases, row_of_set, row_of_append, atoms_same, atoms_there}
 use Rattle.signal_values.proofs.KeptLemmas.{keeps_fresh}
 use Rattle.signal_values.proofs.WriteLemmas.{differs_at}
 
@@ -78,16 +78,17 @@ no_row_of {K} {V} cmp x rows key none = by_cases (row_cases cmp x rows key)
     by_cases (inr gone) = gone.found
 
 -- an atom was set
-pub set_is : {R K V : Type 0} (m : Meaning K V) (cmp : K → K → Ordering) → IsExact cmp → (rules : R) (old middle new : Cells K V) (epoch after : ℕ) (key : K) (i : ℕ) (row : Row K V) (v before : V) (changes : Bool)
+pub set_is : {R K V : Type 0} (m : Meaning K V) (cmp : K → K → Ordering) → IsExact cmp → (rules : R) (old middle new : Cells K V) (epoch after time : ℕ) (key : K) (i : ℕ) (row : Row K V) (v : V) (changes : Bool)
     → IsSound m cmp (atoms_of m cmp middle.rows.items) middle → m.rank key ≡ 0
     → ((j : ℕ) (r : Row K V) → slice_get old.rows.items j ≡ Some r → slice_get middle.rows.items j ≡ Some r)
+    → ((k : K) → k ≢ key → row_of cmp middle.rows.items k ≡ row_of cmp old.rows.items k)
     → ((j : ℕ) → IsFresh old.fresh.items j → IsFresh middle.fresh.items j)
     → atoms_of m cmp middle.rows.items ≡ atoms_of m cmp old.rows.items
     → slice_get middle.rows.items i ≡ Some row → row.key ≡ key → option_and_then (λ (r : Row K V). r.changed) (row_of cmp old.rows.items key) ≡ row.changed
-    → IsWritten m cmp middle new i row v (risen epoch) before changes → (changes ≡ true → after ≡ risen epoch) → (changes ≡ false → after ≡ epoch)
-    → IsSet m cmp (seen rules old epoch) (seen rules new after) key v changes
-set_is {R} {K} {V} m cmp x rules old middle new epoch after key i row v before changes sound low keep stay atoms at is changed w up down =
-    let other = written_row row v changes (risen epoch) in
+    → IsWritten m cmp middle new i row v time changes → (changes ≡ true → after ≡ time) → (changes ≡ false → after ≡ epoch)
+    → IsSetAt m cmp (seen rules old epoch) (seen rules new after) key v time changes
+set_is {R} {K} {V} m cmp x rules old middle new epoch after time key i row v changes sound low keep others stay atoms at is changed w up down =
+    let other = written_row row v changes time in
     let same_key : other.key ≡ row.key = key_of changes in
     let in_new : (j : ℕ) (r : Row K V) → slice_get (set middle.rows.items i other) j ≡ Some r → slice_get new.rows.items j ≡ Some r = λ j r h. subst (λ (rs : List (Row K V)). slice_get rs j ≡ Some r) (sym w.rows) h in
     let new_at : slice_get new.rows.items i ≡ Some other = in_new i other (set_same middle.rows.items i other (slice_get_within middle.rows.items i row at)) in
@@ -119,24 +120,25 @@ set_is {R} {K} {V} m cmp x rules old middle new epoch after key i row v before c
         λ k (j, r, h, s, f). let q = kept j r (keep j r h) in (j, q.0, q.1, q.2 ∙ s, subst (λ (bs : List Bool). IsFresh bs j) (sym (w.same e).1) (stay j f)),
       );
       rows = λ j r h ne. in_new j r (set_other middle.rows.items i j other (λ e. ne (ap (λ (s : Row K V). s.key) (same_get (slice_get middle.rows.items i) r row (subst (λ (n : ℕ). slice_get middle.rows.items n ≡ Some r) e (keep j r h)) at) ∙ is)) ∙ keep j r h);
+      changed = λ k ne. ap (option_and_then (λ (r : Row K V). r.changed)) (ap (λ (rs : List (Row K V)). row_of cmp rs k) w.rows ∙ row_of_set cmp x middle.rows.items i row other k at same_key (λ e. ne (e ∙ is)) ∙ others k ne);
       apart = λ k (j, r, h, s, f) away.
           let q = kept j r (keep j r h) in
           (j, q.0, q.1, q.2 ∙ s, w.apart j r (keep j r h) (stay j f) (λ meets. away (subst (λ (a : K → V). Meets m a key k) atoms (subst (λ (c : K). Meets m (atoms_of m cmp middle.rows.items) c k) is (subst (λ (c : K). Meets m (atoms_of m cmp middle.rows.items) row.key c) s meets)))));
     }
   where
-    key_of : (b : Bool) → (written_row row v b (risen epoch)).key ≡ row.key
+    key_of : (b : Bool) → (written_row row v b time).key ≡ row.key
     key_of true = refl
     key_of false = refl
 
-    value_of : (b : Bool) → (b ≡ false → v ≡ row.value) → (written_row row v b (risen epoch)).value ≡ v
+    value_of : (b : Bool) → (b ≡ false → v ≡ row.value) → (written_row row v b time).value ≡ v
     value_of true f = refl
     value_of false f = sym (f refl)
 
-    changed_true : (b : Bool) → b ≡ true → (written_row row v b (risen epoch)).changed ≡ Some (risen epoch)
+    changed_true : (b : Bool) → b ≡ true → (written_row row v b time).changed ≡ Some time
     changed_true true e = refl
     changed_true false e = absurd (cc)
 
-    changed_false : (b : Bool) → b ≡ false → (written_row row v b (risen epoch)).changed ≡ or_zero row.changed
+    changed_false : (b : Bool) → b ≡ false → (written_row row v b time).changed ≡ or_zero row.changed
     changed_false true e = absurd (cc)
     changed_false false e = refl
 
@@ -153,12 +155,14 @@ pub listed_read : {K V : Type 0} (m : Meaning K V) (cmp : K → K → Ordering) 
     → ((j : ℕ) (row : Row K V) → slice_get old.rows.items j ≡ Some row → row.key ≡ key → ⊥) → IsLeft m cmp epoch old new → IsFreshAt new key i → IsRead old new i → HasListed cmp old new key i
 listed_read {K} {V} m cmp x epoch old new key i columns absent left found read =
     let at : slice_get new.rows.items i ≡ Some read.row = subst (λ (rs : List (Row K V)). slice_get rs i ≡ Some read.row) (sym read.rows) (subst (λ (n : ℕ). slice_get (old.rows.items ++ read.row ∷ []) n ≡ Some read.row) (sym read.place) (get_last old.rows.items read.row)) in
+    let key_is : read.row.key ≡ key = ap (λ (r : Row K V). r.key) (same_get (slice_get new.rows.items i) read.row found.row at found.at) ∙ found.is in
     record {
       row = read.row;
       at = at;
-      is = ap (λ (r : Row K V). r.key) (same_get (slice_get new.rows.items i) read.row found.row at found.at) ∙ found.is;
+      is = key_is;
       changed = ap (option_and_then (λ (r : Row K V). r.changed)) (no_row_of cmp x old.rows.items key absent) ∙ sym read.changed;
       rows = λ j r h. subst (λ (rs : List (Row K V)). slice_get rs j ≡ Some r) (sym read.rows) (get_keep old.rows.items read.row r j h);
+      others = λ k ne. ap (λ (rs : List (Row K V)). row_of cmp rs k) read.rows ∙ row_of_append cmp x old.rows.items read.row k (λ e. ne (sym e ∙ key_is));
       flags = λ j h.
           let r = get_within old.rows.items j (omega (arith, slice_get_within old.fresh.items j true h, columns)) in
           (keeps_fresh m epoch old.rows.items old.fresh.items new.rows.items new.fresh.items left.kept j r.0 r.1 h).1;

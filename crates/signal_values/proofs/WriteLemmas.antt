@@ -20,13 +20,13 @@ use Rattle.signal_values.specs.declared.cells.Cells.{Cells}
 use Rattle.signal_values.specs.Cells.{IsFresh, HaveAtoms, IsCurrent, IsGraph, IsSound, atoms_of}
 use Rattle.signal_values.specs.Marks.{Hangs, IsMarked}
 use Rattle.signal_values.specs.Marks.Hangs.{child, deeper}
-use Rattle.signal_values.specs.Writes.{IsWritten, IsRowWritten, written_row}
+use Rattle.signal_values.specs.Writes.{IsWritten, written_row}
 use Rattle.signal_values.proofs.MarkLemmas.{dec_fresh, dec_row}
 use Rattle.signal_values.proofs.ListLemmas.{set_same, set_other, set_cases, get_within}
 use Rattle.signal_values.proofs.AtomLemmas.{IsExact, HasRow, HasNone, row_cases, atoms_there}
 use Rattle.signal_values.proofs.KeptLemmas.{index_written, index_same, sound_here}
 
-same_get : {X : Type 0} (o : Option X) (x y : X) → o ≡ Some x → o ≡ Some y → x ≡ y
+pub same_get : {X : Type 0} (o : Option X) (x y : X) → o ≡ Some x → o ≡ Some y → x ≡ y
 same_get o x y p q = cc
 
 -- what hangs on a row is some row's child
@@ -163,7 +163,7 @@ graph_marked {K} {V} m cmp x atoms now_atoms rows fresh children i row other lis
 -- an atom was written with another value
 pub written_other : {K V : Type 0} (m : Meaning K V) (cmp : K → K → Ordering) → IsExact cmp → (old new : Cells K V) (i : ℕ) (row : Row K V) (v : V) (epoch : ℕ)
     → IsSound m cmp (atoms_of m cmp old.rows.items) old → slice_get old.rows.items i ≡ Some row → m.rank row.key ≡ 0 → v ≢ row.value → IsMarked i old.edges.children old.fresh.items new.edges.children new.fresh.items
-    → new.rows.items ≡ set old.rows.items i (written_row row v true epoch) → new.places ≡ old.places → IsWritten m cmp old new i row v epoch row.value true
+    → new.rows.items ≡ set old.rows.items i (written_row row v true epoch) → new.places ≡ old.places → IsWritten m cmp old new i row v epoch true
 written_other {K} {V} m cmp x old new i row v epoch sound here low ne marked re pe =
     let rows = old.rows.items in
     let other = written_row row v true epoch in
@@ -175,7 +175,6 @@ written_other {K} {V} m cmp x old new i row v epoch sound here low ne marked re 
         index = index_same cmp old.places new.places (set rows i other) new.rows.items (index_written cmp old.places rows i row other sound.index here refl) (λ k. ap (λ p. get cmp p k) pe) re;
         room = omega (arith, sound.room, ap length re, length-set rows i other, marked.marking.rows);
       };
-      was = refl;
       rows = re;
       same = λ e. absurd (cc);
       differs = λ e. ne;
@@ -241,7 +240,7 @@ graph_touched {K} {V} m atoms rows fresh children i row other g here same value 
 -- an atom was written with an equal value
 pub written_equal : {K V : Type 0} (m : Meaning K V) (cmp : K → K → Ordering) → IsExact cmp → (old new : Cells K V) (i : ℕ) (row : Row K V) (v : V) (epoch : ℕ)
     → IsSound m cmp (atoms_of m cmp old.rows.items) old → slice_get old.rows.items i ≡ Some row → v ≡ row.value → new.edges.children ≡ old.edges.children → new.fresh.items ≡ old.fresh.items
-    → new.rows.items ≡ set old.rows.items i (written_row row v false epoch) → new.places ≡ old.places → IsWritten m cmp old new i row v epoch v false
+    → new.rows.items ≡ set old.rows.items i (written_row row v false epoch) → new.places ≡ old.places → IsWritten m cmp old new i row v epoch false
 written_equal {K} {V} m cmp x old new i row v epoch sound here same ee fe re pe =
     let rows = old.rows.items in
     let other = written_row row v false epoch in
@@ -255,7 +254,6 @@ written_equal {K} {V} m cmp x old new i row v epoch sound here same ee fe re pe 
     } in
     record {
       sound = sound_here m cmp x (atoms_of m cmp rows) new moved;
-      was = same;
       rows = re;
       same = λ e. (same, fe);
       differs = λ e. absurd (cc);
@@ -269,22 +267,9 @@ slice_back now fresh n same long = grind (arith, common_steps)
 pub some_if : {A : Type 0} (o : Option A) (Q : A → Type 0) (x : A) → o ≡ Some x → Q x → IfSome o Q
 some_if {A} o Q x e h = let P : Option A → Type 0 = λ p. IfSome p Q in subst P (sym e) h
 
-pub row_equal : {K V : Type 0} (eq : V → V → Bool) → ((a b : V) → eq a b ≡ true → a ≡ b) → (epoch : ℕ) (v : V) (row after : Row K V) (before : V) (changes : Bool) → IsRowWritten eq epoch v row after before changes → changes ≡ false
-    → (v ≡ row.value) × (after ≡ written_row row v false epoch) × (before ≡ v)
-row_equal eq exact epoch v row after before changes (inl q) e = (sym (exact row.value v q.0), q.3, q.2)
-row_equal eq exact epoch v row after before changes (inr q) e = absurd (cc)
-
-pub row_differs : {K V : Type 0} (eq : V → V → Bool) → ((a : V) → eq a a ≡ true) → (epoch : ℕ) (v : V) (row after : Row K V) (before : V) (changes : Bool) → IsRowWritten eq epoch v row after before changes → changes ≡ true
-    → (v ≢ row.value) × (after ≡ written_row row v true epoch) × (before ≡ row.value)
-row_differs eq itself_eq epoch v row after before changes (inl q) e = absurd (cc)
-row_differs {K} {V} eq itself_eq epoch v row after before changes (inr q) e =
-    ((λ same. let yes_ : eq row.value v ≡ true = subst (λ (w : V). eq row.value w ≡ true) (sym same) (itself_eq row.value) in no (eq row.value v) q.0 yes_), q.3, q.2)
+-- values that don't compare as equal differ
+pub not_same : {V : Type 0} (eq : V → V → Bool) → ((a : V) → eq a a ≡ true) → (a b : V) → eq a b ≡ false → b ≢ a
+not_same {V} eq itself_eq a b h same = let yes_ : eq a b ≡ true = subst (λ (w : V). eq a w ≡ true) (sym same) (itself_eq a) in no (eq a b) h yes_
   where
-    no : (b : Bool) → b ≡ false → b ≡ true → ⊥
-    no b p r = cc
-
--- the same write under other names of what it gives
-pub written_as : {K V : Type 0} (m : Meaning K V) (cmp : K → K → Ordering) (old new : Cells K V) (i : ℕ) (row : Row K V) (v : V) (epoch : ℕ) (before given : V) (changes flag : Bool)
-    → before ≡ given → changes ≡ flag → IsWritten m cmp old new i row v epoch given flag → IsWritten m cmp old new i row v epoch before changes
-written_as {K} {V} m cmp old new i row v epoch before given changes flag be ce w =
-    subst (λ (b : V). IsWritten m cmp old new i row v epoch b changes) (sym be) (subst (λ (b : Bool). IsWritten m cmp old new i row v epoch given b) (sym ce) w)
+    no : (c : Bool) → c ≡ false → c ≡ true → ⊥
+    no c p r = cc

@@ -1,5 +1,5 @@
 -- What a computation leaves.
-use Rattle.std.specs.Prelude.{◌≡◌, ◌⊎◌, ℕ, ◌<◌, ◌≤◌, Bool, true, false, List, ◌∷◌, [], ◌++◌, length, slice_get, Some, None, Contains, option_and_then}
+use Rattle.std.specs.Prelude.{◌≡◌, ◌≢◌, ◌⊎◌, ℕ, ◌<◌, ◌≤◌, Bool, true, false, List, ◌∷◌, [], ◌++◌, length, slice_get, Some, None, Contains, option_and_then}
 use Rattle.std.specs.declared.cmp.Ordering.{Ordering}
 use Rattle.std.specs.BTreeMap.{get, Updates}
 use Rattle.links_core.specs.Lists.{list_at}
@@ -93,11 +93,12 @@ pub record IsRead {K V : Type 0} (old new : Cells K V) (i : ℕ) : Type 0 where
   pub rows : new.rows.items ≡ old.rows.items ++ row ∷ []
   pub changed : row.changed ≡ None
 
--- the key has a row, whose changed epoch is that from before, and the rows that were there are as they were
+-- the key has a row, whose changed epoch is that from before, and no other key's row is another
 pub record HasListed {K V : Type 0} (cmp : K → K → Ordering) (old new : Cells K V) (key : K) (i : ℕ) : Type 0 where
   pub row : Row K V
   pub at : slice_get new.rows.items i ≡ Some row
   pub is : row.key ≡ key
   pub changed : option_and_then (λ (r : Row K V). r.changed) (row_of cmp old.rows.items key) ≡ row.changed
   pub rows : (j : ℕ) (r : Row K V) → slice_get old.rows.items j ≡ Some r → slice_get new.rows.items j ≡ Some r
+  pub others : (other : K) → other ≢ key → row_of cmp new.rows.items other ≡ row_of cmp old.rows.items other
   pub flags : (j : ℕ) → IsFresh old.fresh.items j → IsFresh new.fresh.items j

@@ -1,5 +1,5 @@
 -- Values, as contracts see them.
-use Rattle.std.specs.Prelude.{◌≡◌, ◌≢◌, ℕ, ◌+◌, ◌-◌, ◌<◌, ◌^◌, Bool, true, false, if◌then◌else◌, nat_lt, List, slice_get, Option, Some, option_and_then}
+use Rattle.std.specs.Prelude.{◌≡◌, ◌≢◌, ◌⊎◌, ℕ, ◌+◌, ◌-◌, ◌<◌, ◌^◌, Bool, true, false, if◌then◌else◌, nat_lt, List, slice_get, Option, Some, option_and_then}
 use Rattle.std.specs.declared.cmp.Ordering.{Ordering}
 use Rattle.signal_rules.specs.Meaning.{Meaning}
 use Rattle.signal_rules.specs.Values.{value, Meets}
@@ -57,17 +57,27 @@ changed_in cmp values key = option_and_then (λ row. row.changed) (row_of cmp va
 abbrev pub IsListed : {R K V : Type 0} → Seen R K V → K → Type 0
 IsListed {R} {K} {V} values key = (i : ℕ) × (row : Row K V) × (slice_get values.rows i ≡ Some row) × (row.key ≡ key)
 
--- an atom was set: it has the value, the other atoms and rows are as they were, the epoch rises exactly where the value
--- differs, and a fresh key whose run doesn't meet the atom stays fresh
-pub record IsSet {R K V : Type 0} (m : Meaning K V) (cmp : K → K → Ordering) (old new : Seen R K V) (key : K) (v : V) (changes : Bool) : Type 0 where
+-- an atom was set at an epoch: it has the value, the other atoms, rows and changed epochs are as they were, exactly where the
+-- value differs the atom changed at that epoch, and a fresh key whose run doesn't meet the atom stays fresh
+pub record IsSetAt {R K V : Type 0} (m : Meaning K V) (cmp : K → K → Ordering) (old new : Seen R K V) (key : K) (v : V) (epoch : ℕ) (changes : Bool) : Type 0 where
   pub rules : new.rules ≡ old.rules
   pub here : atoms_of m cmp new.rows key ≡ v
   pub others : (other : K) → other ≢ key → atoms_of m cmp new.rows other ≡ atoms_of m cmp old.rows other
-  pub differs : changes ≡ true → (v ≢ atoms_of m cmp old.rows key) × (new.epoch ≡ risen old.epoch) × (changed_in cmp new key ≡ Some (risen old.epoch))
+  pub differs : changes ≡ true → (v ≢ atoms_of m cmp old.rows key) × (new.epoch ≡ epoch) × (changed_in cmp new key ≡ Some epoch)
   pub same : changes ≡ false → (v ≡ atoms_of m cmp old.rows key) × (new.epoch ≡ old.epoch) × (changed_in cmp new key ≡ or_zero (changed_in cmp old key)) × ((other : K) → IsFreshKey old.rows old.fresh other → IsFreshKey new.rows new.fresh other)
   pub rows : (i : ℕ) (row : Row K V) → slice_get old.rows i ≡ Some row → row.key ≢ key → slice_get new.rows i ≡ Some row
+  pub changed : (other : K) → other ≢ key → changed_in cmp new other ≡ changed_in cmp old other
   pub apart : (other : K) → IsFreshKey old.rows old.fresh other → (Meets m (atoms_of m cmp old.rows) key other → ⊥) → IsFreshKey new.rows new.fresh other
 
--- a value was put back at an atom, which changed it or not
-abbrev pub IsPutBack : {R K V : Type 0} → Meaning K V → (K → K → Ordering) → Seen R K V → Seen R K V → K → V → Type 0
-IsPutBack m cmp old new key v = (changes : Bool) × IsSet m cmp old new key v changes
+-- an atom was set: the epoch rises where its value differs
+abbrev pub IsSet : {R K V : Type 0} → Meaning K V → (K → K → Ordering) → Seen R K V → Seen R K V → K → V → Bool → Type 0
+IsSet m cmp old new key v changes = IsSetAt m cmp old new key v (risen old.epoch) changes
+
+-- a value was put back at an atom, at an epoch: an equal one changes nothing, and another is set
+abbrev pub IsPutBack : {R K V : Type 0} → Meaning K V → (K → K → Ordering) → Seen R K V → Seen R K V → K → V → ℕ → Type 0
+IsPutBack m cmp old new key v epoch =
+    ((v ≡ atoms_of m cmp old.rows key) × (new ≡ old)) ⊎ IsSetAt m cmp old new key v epoch true
+
+-- the epoch is this one, or the one after the next change
+abbrev pub IsNowOrNext : ℕ → ℕ → Type 0
+IsNowOrNext now epoch = (epoch ≡ now) ⊎ (epoch ≡ risen now)

@@ -1,5 +1,5 @@
 -- What a write of an atom leaves.
-use Rattle.std.specs.Prelude.{◌≡◌, ◌≢◌, ◌⊎◌, ℕ, Bool, true, false, slice_get, slice_set, Option, Some, None}
+use Rattle.std.specs.Prelude.{◌≡◌, ◌≢◌, ℕ, Bool, true, false, slice_get, slice_set, Option, Some, None}
 use Rattle.std.specs.declared.cmp.Ordering.{Ordering}
 use Rattle.signal_rules.specs.Meaning.{Meaning}
 use Rattle.signal_rules.specs.Values.{Meets}
@@ -17,16 +17,9 @@ abbrev pub written_row : {K V : Type 0} → Row K V → V → Bool → ℕ → R
 written_row row v true epoch = record row { value = v; changed = Some epoch }
 written_row row v false epoch = record row { changed = or_zero row.changed }
 
--- a row was written: what it was, and whether that differs
-abbrev pub IsRowWritten : {K V : Type 0} → (V → V → Bool) → ℕ → V → Row K V → Row K V → V → Bool → Type 0
-IsRowWritten eq epoch v row after before changes =
-    ((eq row.value v ≡ true) × (changes ≡ false) × (before ≡ v) × (after ≡ written_row row v false epoch))
-    ⊎ ((eq row.value v ≡ false) × (changes ≡ true) × (before ≡ row.value) × (after ≡ written_row row v true epoch))
-
 -- an atom was written
-pub record IsWritten {K V : Type 0} (m : Meaning K V) (cmp : K → K → Ordering) (old new : Cells K V) (i : ℕ) (row : Row K V) (v : V) (epoch : ℕ) (before : V) (changes : Bool) : Type 0 where
+pub record IsWritten {K V : Type 0} (m : Meaning K V) (cmp : K → K → Ordering) (old new : Cells K V) (i : ℕ) (row : Row K V) (v : V) (epoch : ℕ) (changes : Bool) : Type 0 where
   pub sound : IsSound m cmp (atoms_of m cmp new.rows.items) new
-  pub was : before ≡ row.value
   pub rows : new.rows.items ≡ slice_set old.rows.items i (written_row row v changes epoch)
   pub same : changes ≡ false → (v ≡ row.value) × (new.fresh.items ≡ old.fresh.items)
   pub differs : changes ≡ true → v ≢ row.value

@@ -1,13 +1,13 @@
 //! Atoms and computed keys.
 ghost use Rattle.std.specs.Prelude.{◌≡◌, ◌≢◌, ◌↔◌, ℕ, [], IsOk, IfOk, IfSome, IfNone, OnOk, OnErr, slice_get};
-ghost use Rattle.signal_values.specs.Seen.{value_in, IsFreshIn, IsGot, IsValueAt, IsSet, IsListed, IsPutBack, changed_in, risen};
+ghost use Rattle.signal_values.specs.Seen.{value_in, IsFreshIn, IsGot, IsValueAt, IsSet, IsListed, IsPutBack, IsNowOrNext, changed_in, risen};
 ghost use Rattle.signal_values.specs.Cells.{row_of, atoms_of};
 ghost use Rattle.signal_values.specs.Kept.{IsFreshKey};
 
 use crate::cells::Cells;
 use crate::rows::find;
 use crate::run::{atom_row, refresh};
-use crate::write::{Written, write};
+use crate::write::{change, write};
 use rooms_val::{Mem, Steps};
 use signal_edges::Edges;
 use signal_rules::Rules;
@@ -77,6 +77,13 @@ impl<R: Rules + Drop> Values<R> {
         ensures { result ≡ self.now.epoch }
     {
         self.epoch
+    }
+
+    /// The epoch after the next change: at 2^64 - 1 the same.
+    pub fn next_epoch(&self) -> u64
+        ensures { result ≡ risen self.now.epoch }
+    {
+        next_epoch(self.epoch)
     }
 
     // The row of a key, with its value.
@@ -151,31 +158,32 @@ impl<R: Rules + Drop> Values<R> {
     {
         let next = next_epoch(self.epoch);
         let i = atom_row(alloc, &self.rules, &mut self.cells, self.epoch, &key)?;
-        let written = write(&self.rules, &mut self.cells, next, i, value);
-        if !written.differs {
+        let differs = write(&self.rules, &mut self.cells, next, i, value);
+        if !differs {
             return Ok(false);
         }
         self.epoch = next;
         Ok(true)
     }
 
-    /// Puts a value back at an atom that has a row, and gives the old one, without memory. The
-    /// epoch rises where they differ. It costs a look-up and what becomes stale.
-    pub fn put_back(&mut self, key: &R::Key, value: R::Value) -> R::Value
+    /// Puts a value back at an atom that has a row, and gives the old one, without memory. Where they
+    /// differ the atom changes at the epoch that is told, which is this one or the next, and else
+    /// nothing does. It costs a look-up and what becomes stale.
+    pub fn put_back(&mut self, key: &R::Key, value: R::Value, epoch: u64) -> R::Value
         requires rank { (R.meaning self.old.rules).rank key.now ≡ 0 }
         requires listed { IsListed self.old key.now }
+        requires epoch { IsNowOrNext self.old.epoch epoch }
         ensures before { result ≡ atoms_of (R.meaning self.old.rules) R.Key.cmp self.old.rows key.now }
-        ensures set { IsPutBack (R.meaning self.old.rules) R.Key.cmp self.old self.new key.now value }
+        ensures set { IsPutBack (R.meaning self.old.rules) R.Key.cmp self.old self.new key.now value epoch }
     {
-        let next = next_epoch(self.epoch);
         let Some(i) = find(&self.cells, key) else {
             unreachable!();
         };
-        let Written { before, differs } = write(&self.rules, &mut self.cells, next, i, value);
-        if !differs {
-            return before;
+        if self.cells.rows[i].value == value {
+            return value;
         }
-        self.epoch = next;
+        let before = change(&self.rules, &mut self.cells, epoch, i, value);
+        self.epoch = epoch;
         before
     }
 }

@@ -1,58 +1,72 @@
 //! Writing atoms.
-ghost use Rattle.std.specs.Prelude.{◌≡◌, ◌<◌, length, slice_get, IfSome};
+ghost use Rattle.std.specs.Prelude.{◌≡◌, ◌≢◌, ◌<◌, true, length, slice_get, IfSome};
 ghost use Rattle.signal_values.specs.Whole.{IsWhole};
-ghost use Rattle.signal_values.specs.Writes.{IsWritten, IsRowWritten};
+ghost use Rattle.signal_values.specs.Writes.{IsWritten, written_row, or_zero};
 
 use crate::cells::{Cells, Row};
 use crate::mark::mark;
 use signal_rules::Rules;
 use std::mem;
 
-// The value before a write, and whether the write changed it.
-#[derive(Drop)]
-pub(crate) struct Written<V> {
-    pub(crate) before: V,
-    pub(crate) differs: bool,
-}
-
-// Writes a row, at an epoch. A row that gets an equal value only counts as set.
-fn write_row<K, V: Eq + Drop>(row: &mut Row<K, V>, value: V, epoch: u64) -> Written<V>
-    ensures { IsRowWritten V.eq epoch value row.old row.new result.before result.differs }
+// Gives a row another value, at an epoch, and gives the old one.
+fn change_row<K, V>(row: &mut Row<K, V>, value: V, epoch: u64) -> V
+    ensures row { row.new ≡ written_row row.old value true epoch }
+    ensures before { result ≡ row.old.value }
 {
-    if row.value == value {
-        row.changed = row.changed.or(Some(0));
-        return Written {
-            before: value,
-            differs: false,
-        };
-    }
     row.changed = Some(epoch);
-    Written {
-        before: mem::replace(&mut row.value, value),
-        differs: true,
-    }
+    mem::replace(&mut row.value, value)
 }
 
-// Writes an atom, at an epoch. Where the value differs, the keys that hang on the atom become stale.
+// Counts a row as set, whose value stays.
+fn count_as_set<K, V>(row: &mut Row<K, V>)
+    ensures { row.new ≡ record row.old { changed = or_zero row.old.changed } }
+{
+    row.changed = row.changed.or(Some(0));
+}
+
+// Gives an atom another value, at an epoch, and gives the old one. The keys that hang on the atom
+// become stale.
+pub(crate) fn change<R: Rules>(
+    rules: &R,
+    cells: &mut Cells<R::Key, R::Value>,
+    epoch: u64,
+    i: usize,
+    value: R::Value,
+) -> R::Value
+    requires sound { IsWhole (R.meaning rules.now) R.Key.cmp cells.old }
+    requires row { i < length cells.old.rows.items }
+    requires atom { IfSome (slice_get cells.old.rows.items i)
+        (λ row. (R.meaning rules.now).rank row.key ≡ 0) }
+    requires differs { IfSome (slice_get cells.old.rows.items i) (λ row. value ≢ row.value) }
+    ensures before { IfSome (slice_get cells.old.rows.items i) (λ row. result ≡ row.value) }
+    ensures written { IfSome (slice_get cells.old.rows.items i)
+        (λ row. IsWritten (R.meaning rules.now) R.Key.cmp cells.old cells.new i row value epoch true) }
+{
+    let before = change_row(&mut cells.rows[i], value, epoch);
+    mark(&mut cells.edges, &mut cells.fresh, i);
+    before
+}
+
+// Writes an atom, at an epoch: true where the value differs. An atom that gets an equal value only
+// counts as set.
 pub(crate) fn write<R: Rules>(
     rules: &R,
     cells: &mut Cells<R::Key, R::Value>,
     epoch: u64,
     i: usize,
     value: R::Value,
-) -> Written<R::Value>
+) -> bool
     requires sound { IsWhole (R.meaning rules.now) R.Key.cmp cells.old }
     requires row { i < length cells.old.rows.items }
     requires atom { IfSome (slice_get cells.old.rows.items i)
         (λ row. (R.meaning rules.now).rank row.key ≡ 0) }
     ensures { IfSome (slice_get cells.old.rows.items i)
-        (λ row. IsWritten (R.meaning rules.now) R.Key.cmp cells.old cells.new i row value epoch result.before result.differs) }
+        (λ row. IsWritten (R.meaning rules.now) R.Key.cmp cells.old cells.new i row value epoch result) }
 {
-    let row = &mut cells.rows[i];
-    let written = write_row(row, value, epoch);
-    if !written.differs {
-        return written;
+    if cells.rows[i].value == value {
+        count_as_set(&mut cells.rows[i]);
+        return false;
     }
-    mark(&mut cells.edges, &mut cells.fresh, i);
-    written
+    let _ = change(rules, cells, epoch, i, value);
+    true
 }

@@ -1,4 +1,4 @@
-use Rattle.std.proofs.Common.{sym, ◌∙◌, ap}
+use Rattle.std.proofs.Common.{refl, sym, ◌∙◌, ap}
 use Rattle.std.specs.Prelude.{option_and_then}
 use Rattle.signal_values.specs.declared.cells.Row.{Row}
 use Rattle.signal_values.specs.Kept.{IsFreshAt, IsRead, HasListed}
@@ -24,6 +24,7 @@ returns-in-Some-clause-listed g c =
       is = q.2;
       changed = ap (option_and_then (λ (r : Row g.row.R-Key.Denot g.row.R-Value.Denot). r.changed)) (row_at g.R.Key.Ord.cmp (exact g.R.Key.Ord.cmp g.met.R.Key.Ord.total g.met.R.Rules.same_keys) c.args.cells.now c.args.key.now c.in-Some.i q.0 c.requires.sound.graph.distinct q.1 q.2);
       rows = λ j r h. h;
+      others = λ k ne. refl;
       flags = λ j h. h;
     }
 
