@@ -1,6 +1,6 @@
 -- News of the watches, and which of them are due.
-use Rattle.std.proofs.Common.{◌≡◌, ◌≢◌, ℕ, zero, suc, ◌+◌, ◌<◌, ◌≤◌, inl, inr, List, [], ◌∷◌, ◌++◌, length, take, drop, get_or, set, Option, Some, None, refl, sym, ◌∙◌, ap, subst, arith, length-append, length-set, get_or-set_other, get_or-set_same}
-use Rattle.std.specs.Prelude.{is_some, IfSome, option_map, map, slice_index, Contains}
+use Rattle.std.proofs.Common.{◌≡◌, ◌≢◌, ℕ, zero, suc, ◌+◌, ◌<◌, ◌≤◌, inl, inr, List, [], ◌∷◌, ◌++◌, length, take, drop, get_or, set, Option, Some, None, Result, Ok, Err, refl, sym, ◌∙◌, ap, subst, arith, length-append, length-set, get_or-set_other, get_or-set_same}
+use Rattle.std.specs.Prelude.{is_some, IfSome, IfOk, option_map, map, slice_index, Contains}
 use Rattle.std.specs.List.Sorted.{IsStrictlyIncreasing}
 use Rattle.std.specs.declared.cmp.Ordering.{Ordering}
 use Rattle.std.proofs.lemmas.Bool.{cases_lt}
@@ -16,7 +16,7 @@ use Rattle.signal_core.specs.Seen.{Seen}
 use Rattle.signal_core.specs.Watches.{watch_at}
 use Rattle.signal_core.specs.Gots.{AreGot}
 use Rattle.signal_core.specs.Due.{IsDue, AreDue, AreTold, told_of, AreFreshKeys, AreFreshIn}
-use Rattle.signal_core.specs.News.{IsNews, numbered, AddsNews, AreNews, told_slot, AreToldBy}
+use Rattle.signal_core.specs.News.{IsNews, numbered, AddsNews, AreNews, AreNewsOf, told_slot, AreToldBy}
 use Rattle.signal_core.proofs.GotLemmas.{got_none, got_then, got_fresh, got_value}
 use Rattle.signal_core.proofs.WatchLemmas.{past, within, get_append, get_seam}
 
@@ -24,11 +24,11 @@ use Rattle.signal_core.proofs.WatchLemmas.{past, within, get_append, get_seam}
 pub news_some : {R K V : Type 0} (m : Meaning K V) (cmp : K → K → Ordering) (values : values.Seen R K V) (watch : Watch K V) (v : V) → v ≡ value_in m cmp values watch.key → watch.told ≢ Some (value_in m cmp values watch.key) → IsNews m cmp values (Some watch) (Some v)
 news_some {R} {K} {V} m cmp values watch v is differs = (is, λ e. differs (e ∙ ap (λ (x : V). Some x) is))
 
--- what is to be told stays so in further computations
-news_before : {R K V : Type 0} (meaning : R → Meaning K V) (cmp : K → K → Ordering) (old new : values.Seen R K V) (slot : Option (Watch K V)) (news : Option V) → AreGot (meaning old.rules) cmp old new → IsNews (meaning new.rules) cmp new slot news → IsNews (meaning old.rules) cmp old slot news
-news_before meaning cmp old new None news got is = is
-news_before {R} {K} {V} meaning cmp old new (Some watch) None got is = is ∙ ap (λ (x : V). Some x) (got_value meaning cmp old new watch.key got)
-news_before meaning cmp old new (Some watch) (Some v) got is = (is.0 ∙ got_value meaning cmp old new watch.key got, is.1)
+-- where keys have the same values, the same is to be told
+news_same : {R K V : Type 0} (m n : Meaning K V) (cmp : K → K → Ordering) (old new : values.Seen R K V) → ((key : K) → value_in m cmp old key ≡ value_in n cmp new key) → (slot : Option (Watch K V)) (news : Option V) → IsNews m cmp old slot news → IsNews n cmp new slot news
+news_same m n cmp old new same None news is = is
+news_same {R} {K} {V} m n cmp old new same (Some watch) None is = is ∙ ap (λ (x : V). Some x) (same watch.key)
+news_same m n cmp old new same (Some watch) (Some v) is = (is.0 ∙ same watch.key, is.1)
 
 -- an element below the end, whatever stands for those past it
 pub at_any : {X : Type 0} (xs : List X) (i : ℕ) (d e : X) → i < length xs → get_or xs i d ≡ get_or xs i e
@@ -92,7 +92,7 @@ round_more {R} {K} {V} meaning cmp old watches values after news more i slot at 
   got = got_then meaning cmp old values after round.got got;
   room = ap length adds.told ∙ length-append news.told.items (adds.news ∷ []) ∙ ap (λ (n : ℕ). n + 1) round.room;
   each = subst (λ (told : List (Option V)). (n : ℕ) → n < i + 1 → IsNews (meaning old.rules) cmp old (watch_at watches n) (get_or told n None)) (sym adds.told)
-      (each_more (meaning old.rules) cmp old watches news.told.items i slot adds.news round.each round.room at (news_before meaning cmp old values slot adds.news round.got adds.is));
+      (each_more (meaning old.rules) cmp old watches news.told.items i slot adds.news round.each round.room at (news_same (meaning values.rules) (meaning old.rules) cmp values old (λ key. got_value meaning cmp old values key round.got) slot adds.news adds.is));
   due_are =
       let e : 0 + length news.told.items ≡ length news.told.items = omega arith in
       adds.due ∙ ap (λ (ds : List (WatchId × V)). ds ++ numbered (length news.told.items) (adds.news ∷ [])) round.due_are
@@ -119,6 +119,23 @@ pub round_news : {R K V : Type 0} (meaning : R → Meaning K V) (cmp : K → K �
     → length watches ≤ i → IsRound meaning cmp old watches values news i → AreNews (meaning old.rules) cmp old watches news.told.items news.due.items
 round_news meaning cmp old watches values news i far round = are_news (meaning old.rules) cmp old watches news.told.items news.due.items i round.each round.room far round.due_are
 
+pub both_ok : {X Y : Type 0} (r : Result X Y) (P Q S : X → Type 0) → ((x : X) → P x → Q x → S x) → IfOk r P → IfOk r Q → IfOk r S
+both_ok (Ok x) P Q S f p q = f x p q
+both_ok (Err e) P Q S f p q = tt
+
+-- the news that a round found are those of the graph that it left
+pub news_after : {R K V : Type 0} (meaning : R → Meaning K V) (cmp : K → K → Ordering) (old new : values.Seen R K V) (seen watches : List (Option (Watch K V))) (news : News V)
+    → seen ≡ watches → AreGot (meaning old.rules) cmp old new → AreNews (meaning old.rules) cmp old seen news.told.items news.due.items → length news.told.items ≡ length seen
+    → AreNewsOf (meaning new.rules) cmp (record { values = new; watches = watches }) news
+news_after {R} {K} {V} meaning cmp old new seen watches news same got are count = record {
+  are = record {
+    each = λ n. news_same (meaning old.rules) (meaning new.rules) cmp old new (λ key. sym (got_value meaning cmp old new key got)) (watch_at watches n) (get_or news.told.items n None)
+        (subst (λ (ws : List (Option (Watch K V))). IsNews (meaning old.rules) cmp old (watch_at ws n) (get_or news.told.items n None)) same (are.each n));
+    due_are = are.due_are;
+  };
+  within = let e = ap length same in omega (arith, count, e);
+}
+
 pub round_fresh : {R K V : Type 0} (meaning : R → Meaning K V) (cmp : K → K → Ordering) (old : values.Seen R K V) (watches : List (Option (Watch K V))) (values : values.Seen R K V) (news : News V) (i : ℕ)
     → length watches ≤ i → IsRound meaning cmp old watches values news i → AreFreshKeys watches values
 round_fresh {R} {K} {V} meaning cmp old watches values news i far round n watch e =
@@ -143,6 +160,16 @@ told_is {R} {K} {V} m cmp values (Some watch) (Some v) is = ap (λ (x : V). Some
 
 pub are_told : {R K V : Type 0} (m : Meaning K V) (cmp : K → K → Ordering) (old : Seen R K V) (told : List (Option V)) (due : List (WatchId × V)) (new : List (Option (Watch K V))) → AreNews m cmp old.values old.watches told due → AreToldBy old.watches told new → AreTold m cmp old new
 are_told m cmp old told due new news by number = by.each number ∙ told_is m cmp old.values (watch_at old.watches number) (get_or told number None) (news.each number)
+
+-- what was told after a computation is what was to be told before it
+pub told_before : {R K V : Type 0} (meaning : R → Meaning K V) (cmp : K → K → Ordering) (old new : Seen R K V) (watches : List (Option (Watch K V)))
+    → AreGot (meaning old.values.rules) cmp old.values new.values → new.watches ≡ old.watches → AreTold (meaning new.values.rules) cmp new watches → AreTold (meaning old.values.rules) cmp old watches
+told_before {R} {K} {V} meaning cmp old new watches got same told number =
+    told number ∙ ap (λ (ws : List (Option (Watch K V))). option_map (told_of (meaning new.values.rules) cmp new.values) (watch_at ws number)) same ∙ at (watch_at old.watches number)
+  where
+    at : (slot : Option (Watch K V)) → option_map (told_of (meaning new.values.rules) cmp new.values) slot ≡ option_map (told_of (meaning old.values.rules) cmp old.values) slot
+    at None = refl
+    at (Some watch) = ap (λ (x : V). Some (record { key = watch.key; told = Some x })) (got_value meaning cmp old.values new.values watch.key got)
 
 -- the watches while they are told, from the last: those from the end of `left` on were told their news
 pub record IsTelling {K V : Type 0} (old : List (Option (Watch K V))) (news : List (Option V)) (watches : List (Option (Watch K V))) (left : List (Option V)) : Type 0 where

@@ -1,5 +1,5 @@
 -- What a round over the watches finds, and what counts as told.
-use Rattle.std.specs.Prelude.{◌≡◌, ◌≢◌, ℕ, ◌+◌, List, [], ◌∷◌, ◌++◌, length, Option, Some, None, slice_index_or}
+use Rattle.std.specs.Prelude.{◌≡◌, ◌≢◌, ℕ, ◌+◌, ◌≤◌, List, [], ◌∷◌, ◌++◌, length, Option, Some, None, slice_index_or}
 use Rattle.std.specs.declared.cmp.Ordering.{Ordering}
 use Rattle.signal_rules.specs.Meaning.{Meaning}
 use Rattle.signal_values.specs.Seen.{value_in}
@@ -7,6 +7,7 @@ use Rattle.signal_values.specs.Seen as values
 use Rattle.signal_core.specs.declared.watch.Watch.{Watch}
 use Rattle.signal_core.specs.declared.watch.WatchId.{WatchId}
 use Rattle.signal_core.specs.declared.news.News.{News}
+use Rattle.signal_core.specs.Seen.{Seen}
 use Rattle.signal_core.specs.Watches.{watch_at}
 
 -- what is to be told in place of what was: nothing where the number isn't watched or its value was told last, and else
@@ -33,6 +34,11 @@ pub record AddsNews {R K V : Type 0} (m : Meaning K V) (cmp : K → K → Orderi
 pub record AreNews {R K V : Type 0} (m : Meaning K V) (cmp : K → K → Ordering) (values : values.Seen R K V) (watches : List (Option (Watch K V))) (told : List (Option V)) (due : List (WatchId × V)) : Type 0 where
   pub each : (number : ℕ) → IsNews m cmp values (watch_at watches number) (slice_index_or told number None)
   pub due_are : due ≡ numbered 0 told
+
+-- these are the news of a graph as it is
+pub record AreNewsOf {R K V : Type 0} (m : Meaning K V) (cmp : K → K → Ordering) (seen : Seen R K V) (news : News V) : Type 0 where
+  pub are : AreNews m cmp seen.values seen.watches news.told.items news.due.items
+  pub within : length news.told.items ≤ length seen.watches
 
 -- a watch with its news, which count as told
 abbrev pub told_slot : {K V : Type 0} → Option (Watch K V) → Option V → Option (Watch K V)

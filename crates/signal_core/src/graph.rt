@@ -1,12 +1,13 @@
 //! Values with watches.
 ghost use Rattle.std.specs.Prelude.{◌≡◌, ◌↔◌, [], Err, IsTrue, IsOk, IfOk, IfSome, IfNone, OnOk, OnErr};
-ghost use Rattle.signal_values.specs.Seen.{value_in, IsFreshIn, IsGot, IsSet, IsListed, IsPutBack, changed_in};
+ghost use Rattle.signal_values.specs.Seen.{value_in, IsFreshIn, IsGot, IsSet, IsListed, IsPutBack, IsNowOrNext, changed_in, risen};
 ghost use Rattle.signal_values.specs.Cells.{atoms_of};
 ghost use Rattle.signal_values.specs.Kept.{IsFreshKey};
 ghost use Rattle.signal_core.specs.declared.watch.WatchFault.TheVariants as watch_fault;
 ghost use Rattle.signal_core.specs.Watches.{IsWatched, IsFull, IsLeastFree, AddsWatch, DropsWatch};
 ghost use Rattle.signal_core.specs.Gots.{AreGot};
 ghost use Rattle.signal_core.specs.Due.{AreDue, AreTold, AreFreshKeys, AreFreshIn};
+ghost use Rattle.signal_core.specs.News.{AreNewsOf};
 
 use crate::news::{News, find_news, tell_all};
 use crate::slots::{add_watch, least_free};
@@ -68,6 +69,13 @@ impl<R: Rules + Drop> Graph<R> {
         self.values.epoch()
     }
 
+    /// The epoch after the next change: at 2^64 - 1 the same.
+    pub fn next_epoch(&self) -> u64
+        ensures { result ≡ risen self.now.values.epoch }
+    {
+        self.values.next_epoch()
+    }
+
     /// The value of an atom: none only where that is `blank`. It changes nothing.
     pub fn atom(&self, key: &R::Key) -> Option<&R::Value>
         requires { (R.meaning self.now.values.rules).rank key.now ≡ 0 }
@@ -107,17 +115,19 @@ impl<R: Rules + Drop> Graph<R> {
         self.values.set(alloc, key, value)
     }
 
-    /// Puts a value back at an atom that has a row, and gives the old one, without memory. The
-    /// epoch rises where they differ. It costs a look-up and what becomes stale.
-    pub fn put_back(&mut self, key: &R::Key, value: R::Value) -> R::Value
+    /// Puts a value back at an atom that has a row, and gives the old one, without memory. Where they
+    /// differ the atom changes at the epoch that is told, which is this one or the next, and else
+    /// nothing does. It costs a look-up and what becomes stale.
+    pub fn put_back(&mut self, key: &R::Key, value: R::Value, epoch: u64) -> R::Value
         requires rank { (R.meaning self.old.values.rules).rank key.now ≡ 0 }
         requires listed { IsListed self.old.values key.now }
+        requires epoch { IsNowOrNext self.old.values.epoch epoch }
         ensures before { result
             ≡ atoms_of (R.meaning self.old.values.rules) R.Key.cmp self.old.values.rows key.now }
-        ensures set { IsPutBack (R.meaning self.old.values.rules) R.Key.cmp self.old.values self.new.values key.now value }
+        ensures set { IsPutBack (R.meaning self.old.values.rules) R.Key.cmp self.old.values self.new.values key.now value epoch }
         ensures watches { self.new.watches ≡ self.old.watches }
     {
-        self.values.put_back(key, value)
+        self.values.put_back(key, value, epoch)
     }
 
     /// A copy of the value of a key, computed anew only where it may differ.
@@ -182,6 +192,42 @@ impl<R: Rules + Drop> Graph<R> {
         self.watches[id.number as usize] = None;
     }
 
+    /// What the watches have to tell: which of them are due, those whose value differs from what was
+    /// last told, a new watch always. Nothing counts as told until [`Graph::tell`].
+    ///
+    /// It costs a `get` of each key that is watched, and two copies of each value that is due.
+    ///
+    /// # Errors
+    ///
+    /// Memory was refused; atoms and the epoch are as they were, and fresh keys stay so.
+    pub fn news<L: Ledger>(&mut self, alloc: Global, steps: &mut Steps<L>) -> Mem<News<R::Value>>
+        ensures news { IfOk result
+            (λ news. AreNewsOf (R.meaning self.new.values.rules) R.Key.cmp self.new news) }
+        ensures due { IfOk result
+            (λ news. AreDue (R.meaning self.old.values.rules) R.Key.cmp self.old news.due.items) }
+        ensures watches { self.new.watches ≡ self.old.watches }
+        ensures got { AreGot (R.meaning self.old.values.rules) R.Key.cmp self.old.values self.new.values }
+        ensures fresh { OnOk result (AreFreshKeys self.old.watches self.new.values) }
+        ensures free { AreFreshIn self.old.watches self.old.values → steps.new ≡ steps.old }
+    {
+        find_news(alloc, &mut self.values, &self.watches, steps)
+    }
+
+    /// Tells the news of this graph as it is, and gives which watches were due, each with its value,
+    /// by rising number. From then on these values count as told.
+    ///
+    /// It takes no memory. It costs a look at each watch.
+    pub fn tell(&mut self, news: News<R::Value>) -> Vec<(WatchId, R::Value)>
+        requires { AreNewsOf (R.meaning self.old.values.rules) R.Key.cmp self.old news }
+        ensures due { result.items ≡ news.due.items }
+        ensures told { AreTold (R.meaning self.old.values.rules) R.Key.cmp self.old self.new.watches }
+        ensures values { self.new.values ≡ self.old.values }
+    {
+        let News { due, told } = news;
+        tell_all(&mut self.watches, told);
+        due
+    }
+
     /// The watches whose value differs from what was last told, a new watch always, each with its
     /// value, by rising number. From then on these values count as told.
     ///
@@ -205,9 +251,8 @@ impl<R: Rules + Drop> Graph<R> {
         ensures fresh { OnOk result (AreFreshKeys self.old.watches self.new.values) }
         ensures free { AreFreshIn self.old.watches self.old.values → steps.new ≡ steps.old }
     {
-        let News { due, told } = find_news(alloc, &mut self.values, &self.watches, steps)?;
-        tell_all(&mut self.watches, told);
-        Ok(due)
+        let news = self.news(alloc, steps)?;
+        Ok(self.tell(news))
     }
 }
 

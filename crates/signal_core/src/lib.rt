@@ -6,10 +6,11 @@
 #![tactic(auto)]
 
 pub mod graph;
-mod news;
+pub mod news;
 mod slots;
 pub mod watch;
 
 pub use graph::Graph;
+pub use news::News;
 pub use signal_values::{Ask, Rules};
 pub use watch::{MOST_WATCHES, WatchFault, WatchId};

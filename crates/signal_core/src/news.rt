@@ -14,13 +14,22 @@ use signal_values::{Rules, Values};
 use std::alloc::Global;
 use std::sync::ledger::Ledger;
 
-// What a round over the watches found.
+/// What the watches of one [`crate::Graph`] have to tell, which counts as told only once it is told.
 #[derive(Drop)]
-pub(crate) struct News<V> {
+pub struct News<V> {
     // Which watches are due, each with its value, by rising number.
     pub(crate) due: Vec<(WatchId, V)>,
-    // By number the value that counts as told from now on: none where nothing is told.
+    // By number the value that is to count as told: none where nothing is told.
     pub(crate) told: Vec<Option<V>>,
+}
+
+impl<V> News<V> {
+    /// Which watches are due, each with its value, by rising number.
+    pub fn due(&self) -> &[(WatchId, V)]
+        ensures { result.now ≡ self.now.due.items }
+    {
+        &self.due
+    }
 }
 
 // Whether a value is what was last told of a watch.
