@@ -105,16 +105,37 @@ impl<L: Ledger> Board<L> {
         Ok(format!(in alloc; "done")?)
     }
 
-    fn due(&mut self, alloc: Global) -> Result<String, Fail> {
-        let before = self.asked.get();
+    // What is due, and how often the rules were asked for it.
+    fn due_text(&self, alloc: Global, due: &[(WatchId, u64)], before: u64) -> Result<String, Fail> {
         let mut text = String::new(alloc);
-        for (id, value) in &self.graph.due(alloc, &mut self.steps)? {
+        for (id, value) in due {
             let part = format!(in alloc; "{}:{value} ", id.number)?;
             text.push_str(part.as_str())?;
         }
         let part = format!(in alloc; "after {}", self.asks_since(before))?;
         text.push_str(part.as_str())?;
         Ok(text)
+    }
+
+    fn due(&mut self, alloc: Global) -> Result<String, Fail> {
+        let before = self.asked.get();
+        let due = self.graph.due(alloc, &mut self.steps)?;
+        self.due_text(alloc, &due, before)
+    }
+
+    // What is due, without telling it.
+    fn news(&mut self, alloc: Global) -> Result<String, Fail> {
+        let before = self.asked.get();
+        let news = self.graph.news(alloc, &mut self.steps)?;
+        self.due_text(alloc, news.due(), before)
+    }
+
+    // What is due, which is told.
+    fn tell(&mut self, alloc: Global) -> Result<String, Fail> {
+        let before = self.asked.get();
+        let news = self.graph.news(alloc, &mut self.steps)?;
+        let due = self.graph.tell(news);
+        self.due_text(alloc, &due, before)
     }
 
     fn changed(&self, alloc: Global, key: u64) -> Result<String, Fail> {
@@ -138,6 +159,8 @@ impl<L: Ledger> Board<L> {
             "watch_often" => self.watch_often(alloc, key(first)?, second.parse()?),
             "unwatch" => self.unwatch(alloc, first.parse()?),
             "due" => self.due(alloc),
+            "news" => self.news(alloc),
+            "tell" => self.tell(alloc),
             "changed" => self.changed(alloc, key(first)?),
             _ => Ok(format!(in alloc; "no such call")?),
         }

@@ -139,3 +139,21 @@ changed 0.2 | 3
 set 0.1 0 | false
 changed 0.1 | 0
 ";
+
+#[test]
+fn news_stay_due_until_they_are_told(rt: HostRuntime) -> Result<(), Fail> {
+    assert_eq!(rt; play(rt.alloc(), NEWS)?.as_str(), "");
+    Ok(())
+}
+
+const NEWS: &str = "
+watch 1.0 | 0
+news | 0:0 after 3
+news | 0:0 after 0
+tell | 0:0 after 0
+news | after 0
+set 0.1 7 | true
+news | 0:7 after 3
+due | 0:7 after 0
+due | after 0
+";

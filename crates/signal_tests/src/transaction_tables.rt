@@ -99,3 +99,33 @@ count_since 1 | reset
 count_since 2 | 256
 since 257 | 1 0:257
 ";
+
+#[test]
+fn an_abort_changes_its_atoms_at_one_epoch(rt: HostRuntime) -> Result<(), Fail> {
+    assert_eq!(rt; play_nested(rt.alloc(), ABORTED)?.as_str(), "");
+    Ok(())
+}
+
+// Atom 3 has its value of before already when it is put back.
+const ABORTED: &str = "
+set 1 1 | true
+set 2 2 | true
+set 3 3 | true
+begin | open
+set 1 5 | true
+set 2 6 | true
+set 3 9 | true
+set 3 3 | true
+epoch | 7
+abort | done
+epoch | 8
+changed 1 | 8
+changed 2 | 8
+changed 3 | 7
+begin | open
+set 1 1 | false
+abort | done
+epoch | 8
+changed 1 | 8
+changed 0 | none
+";

@@ -96,6 +96,14 @@ impl<L: Ledger> Nest<L> {
         Ok(format!(in alloc; "done")?)
     }
 
+    // The epoch at which the value of a key last changed.
+    fn changed(&self, alloc: Global, key: u64) -> Result<String, Fail> {
+        match self.txn.changed_at(&key) {
+            Some(epoch) => Ok(format!(in alloc; "{epoch}")?),
+            None => Ok(format!(in alloc; "none")?),
+        }
+    }
+
     // What was written after an epoch: how much, and each atom with its value.
     fn since(&self, alloc: Global, epoch: u64) -> Result<String, Fail> {
         let Since::Diffs(diffs) = self.txn.diffs_since(alloc, epoch)? else {
@@ -131,6 +139,7 @@ impl<L: Ledger> Nest<L> {
             "begin_often" => self.begin_often(alloc, first.parse()?),
             "commit" => self.commit(alloc),
             "abort" => self.abort(alloc),
+            "changed" => self.changed(alloc, first.parse()?),
             "since" => self.since(alloc, first.parse()?),
             "count_since" => self.count_since(alloc, first.parse()?),
             "epoch" => Ok(format!(in alloc; "{}", self.txn.epoch())?),

@@ -129,6 +129,7 @@ abort_in {R} {K} {V} m cmp old new levels all ring level before is same back0 wa
       rules = back.rules;
       watches = watches;
       epoch = back.epoch;
+      changed = back.changed;
       rows = back.rows;
       apart = back.apart;
     }

@@ -10,7 +10,7 @@ use Rattle.signal_values.specs.declared.cells.Row.{Row}
 use Rattle.signal_values.specs.Cells.{row_of}
 use Rattle.signal_values.specs.Kept.{Leaves}
 use Rattle.signal_values.specs.Writes.{or_zero}
-use Rattle.signal_values.specs.Seen.{Seen, IsGot, IsSet, IsListed}
+use Rattle.signal_values.specs.Seen.{Seen, IsGot, IsSet, IsSetAt, IsListed, risen}
 use Rattle.signal_txn.specs.LastWrites.{LastWrites}
 use Rattle.signal_txn.specs.Level.{Level, value_before, began_at, noted, unwritten}
 use Rattle.signal_txn.specs.Seen.{HasWritten}
@@ -39,16 +39,16 @@ zero_then f o None h = some_then f o 0 h
 zero_then f o (Some e) h = some_then f o e h
 
 -- an atom that was set is listed
-pub set_listed : {R K V : Type 0} (m : Meaning K V) (cmp : K → K → Ordering) → IsExact cmp → (old new : Seen R K V) (key : K) (v : V) (changes : Bool)
-    → IsSet m cmp old new key v changes → IsListed new key
-set_listed {R} {K} {V} m cmp x old new key v true set = has_row cmp x new.rows key (some_then _ _ _ (set.differs refl).2)
-set_listed {R} {K} {V} m cmp x old new key v false set = has_row cmp x new.rows key (zero_then _ _ _ (set.same refl).2)
+pub set_listed : {R K V : Type 0} (m : Meaning K V) (cmp : K → K → Ordering) → IsExact cmp → (old new : Seen R K V) (key : K) (v : V) (epoch : ℕ) (changes : Bool)
+    → IsSetAt m cmp old new key v epoch changes → IsListed new key
+set_listed {R} {K} {V} m cmp x old new key v epoch true set = has_row cmp x new.rows key (some_then _ _ _ (set.differs refl).2)
+set_listed {R} {K} {V} m cmp x old new key v epoch false set = has_row cmp x new.rows key (zero_then _ _ _ (set.same refl).2)
 
 -- a listed atom stays so
-pub set_keeps : {R K V : Type 0} (m : Meaning K V) (cmp : K → K → Ordering) → IsExact cmp → (old new : Seen R K V) (key : K) (v : V) (changes : Bool)
-    → IsSet m cmp old new key v changes → (k : K) → IsListed old k → IsListed new k
-set_keeps {R} {K} {V} m cmp x old new key v changes set k (i, row, at, is) = elim (same_or_not cmp x row.key key) [
-  | inl e ↦ subst (λ (q : K). IsListed new q) (sym e ∙ is) (set_listed m cmp x old new key v changes set)
+pub set_keeps : {R K V : Type 0} (m : Meaning K V) (cmp : K → K → Ordering) → IsExact cmp → (old new : Seen R K V) (key : K) (v : V) (epoch : ℕ) (changes : Bool)
+    → IsSetAt m cmp old new key v epoch changes → (k : K) → IsListed old k → IsListed new k
+set_keeps {R} {K} {V} m cmp x old new key v epoch changes set k (i, row, at, is) = elim (same_or_not cmp x row.key key) [
+  | inl e ↦ subst (λ (q : K). IsListed new q) (sym e ∙ is) (set_listed m cmp x old new key v epoch changes set)
   | inr ne ↦ (i, row, set.rows i row at ne, is)
 ]
 
@@ -94,8 +94,8 @@ undoable_set {R} {K} {V} m cmp x old new key v before changes set low (level ∷
       | inr e ↦ ap m.rank e ∙ low
     ];
     listed = λ k h. elim (written_after cmp x key before level k h) [
-      | inl w ↦ set_keeps m cmp x old new key v changes set k (u.0.listed k w)
-      | inr e ↦ subst (λ (q : K). IsListed new q) (sym e) (set_listed m cmp x old new key v changes set)
+      | inl w ↦ set_keeps m cmp x old new key v (risen old.epoch) changes set k (u.0.listed k w)
+      | inr e ↦ subst (λ (q : K). IsListed new q) (sym e) (set_listed m cmp x old new key v (risen old.epoch) changes set)
     ];
     known = known_noted cmp x key before level around u.0.known;
   },

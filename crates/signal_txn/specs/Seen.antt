@@ -1,11 +1,12 @@
 -- Transactions, as contracts see them.
-use Rattle.std.specs.Prelude.{◌≡◌, ℕ, ◌≤◌, Bool, true, false, Some, is_some, List, ◌∷◌, map, drop, slice_get}
+use Rattle.std.specs.Prelude.{◌≡◌, ◌≢◌, ◌⊎◌, ℕ, Bool, true, false, Some, is_some, List, ◌∷◌, map, drop, slice_get}
 use Rattle.std.specs.declared.cmp.Ordering.{Ordering}
 use Rattle.signal_rules.specs.Meaning.{Meaning}
 use Rattle.signal_rules.specs.Values.{Meets}
 use Rattle.signal_values.specs.Cells.{atoms_of}
 use Rattle.signal_values.specs.Kept.{IsFreshKey}
-use Rattle.signal_values.specs.Seen.{IsGot, IsSet}
+use Rattle.signal_values.specs.Seen.{IsGot, IsSet, changed_in, risen}
+use Rattle.signal_values.specs.Seen as values
 use Rattle.signal_values.specs.declared.cells.Row.{Row}
 use Rattle.signal_core.specs.Seen as core
 use Rattle.signal_txn.specs.Level.{Level, value_before, began_at, noted}
@@ -50,8 +51,19 @@ pub record IsCommitted {R K V : Type 0} (m : Meaning K V) (cmp : K → K → Ord
   pub journal : new.journal ≡ committed old.journal.levels old.journal.ring
   pub begun : begun m cmp new ≡ drop 1 (begun m cmp old)
 
--- the newest transaction was aborted: the atoms are those at which it began, and those around it began where they did; a
--- fresh key whose run meets none of the atoms written since stays fresh, and other rows are as they were
+-- where an atom differs it changed at the epoch after, which is the next one, and else its changed epoch is as it was
+pub record ChangesOnce {R K V : Type 0} (m : Meaning K V) (cmp : K → K → Ordering) (old new : values.Seen R K V) (key : K) : Type 0 where
+  pub differs : atoms_of m cmp new.rows key ≢ atoms_of m cmp old.rows key → (new.epoch ≡ risen old.epoch) × (changed_in cmp new key ≡ Some new.epoch)
+  pub same : atoms_of m cmp new.rows key ≡ atoms_of m cmp old.rows key → changed_in cmp new key ≡ changed_in cmp old key
+
+-- the epoch is as it was, unless some atom differs
+abbrev pub StaysUnlessChanged : {R K V : Type 0} → Meaning K V → (K → K → Ordering) → values.Seen R K V → values.Seen R K V → Type 0
+StaysUnlessChanged {R} {K} {V} m cmp old new =
+    (new.epoch ≡ old.epoch) ⊎ ((key : K) × (atoms_of m cmp new.rows key ≢ atoms_of m cmp old.rows key))
+
+-- the newest transaction was aborted: the atoms are those at which it began, and those around it began where they did; the
+-- epoch rises once where an atom changed, which then has it as its changed epoch; a fresh key whose run meets none of the
+-- atoms written since stays fresh, and other rows are as they were
 pub record IsAborted {R K V : Type 0} (m : Meaning K V) (cmp : K → K → Ordering) (old new : Seen R K V) : Type 0 where
   pub level : Level K V
   pub levels : old.journal.levels ≡ level ∷ new.journal.levels
@@ -59,6 +71,7 @@ pub record IsAborted {R K V : Type 0} (m : Meaning K V) (cmp : K → K → Order
   pub restored : begun m cmp old ≡ atoms_in m cmp new ∷ begun m cmp new
   pub rules : new.graph.values.rules ≡ old.graph.values.rules
   pub watches : new.graph.watches ≡ old.graph.watches
-  pub epoch : old.graph.values.epoch ≤ new.graph.values.epoch
+  pub epoch : StaysUnlessChanged m cmp old.graph.values new.graph.values
+  pub changed : (key : K) → ChangesOnce m cmp old.graph.values new.graph.values key
   pub rows : (i : ℕ) (row : Row K V) → slice_get old.graph.values.rows i ≡ Some row → (HasWritten cmp level row.key → ⊥) → slice_get new.graph.values.rows i ≡ Some row
   pub apart : (key : K) → IsFreshKey old.graph.values.rows old.graph.values.fresh key → ((atom : K) → HasWritten cmp level atom → Meets m (atoms_in m cmp old) atom key → ⊥) → IsFreshKey new.graph.values.rows new.graph.values.fresh key

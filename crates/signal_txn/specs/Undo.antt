@@ -1,5 +1,5 @@
 -- What open transactions wrote can be put back.
-use Rattle.std.specs.Prelude.{◌≡◌, ℕ, ◌≤◌, true, is_some, List, [], ◌∷◌, Some, unwrap_or, slice_get}
+use Rattle.std.specs.Prelude.{◌≡◌, ℕ, true, is_some, List, [], ◌∷◌, Some, unwrap_or, slice_get}
 use Rattle.std.specs.declared.cmp.Ordering.{Ordering}
 use Rattle.std.specs.Map.{lookup}
 use Rattle.std.specs.BTreeMap.{is_at}
@@ -10,7 +10,7 @@ use Rattle.signal_values.specs.Kept.{IsFreshKey}
 use Rattle.signal_values.specs.Seen.{Seen, IsListed}
 use Rattle.signal_values.specs.declared.cells.Row.{Row}
 use Rattle.signal_txn.specs.Level.{Level}
-use Rattle.signal_txn.specs.Seen.{HasWritten}
+use Rattle.signal_txn.specs.Seen.{HasWritten, ChangesOnce, StaysUnlessChanged}
 
 -- each of these transactions knows the value before of each key that one wrote
 abbrev pub AreKnown : {K V : Type 0} → (K → K → Ordering) → Level K V → List (Level K V) → Type 0
@@ -37,11 +37,13 @@ HasEntry cmp entries key = is_some (lookup (is_at (cmp key)) entries) ≡ true
 abbrev pub put_over : {K V : Type 0} → (K → K → Ordering) → List (K × V) → (K → V) → K → V
 put_over cmp entries atoms key = unwrap_or (lookup (is_at (cmp key)) entries) (atoms key)
 
--- these values were put back: a fresh key whose run meets none of the atoms stays fresh, and other rows are as they were
+-- these values were put back, all at one epoch: a fresh key whose run meets none of the atoms stays fresh, and other rows
+-- are as they were
 pub record ArePutBack {R K V : Type 0} (m : Meaning K V) (cmp : K → K → Ordering) (old new : Seen R K V) (entries : List (K × V)) : Type 0 where
   pub rules : new.rules ≡ old.rules
   pub atoms : atoms_of m cmp new.rows ≡ put_over cmp entries (atoms_of m cmp old.rows)
-  pub epoch : old.epoch ≤ new.epoch
+  pub epoch : StaysUnlessChanged m cmp old new
+  pub changed : (key : K) → ChangesOnce m cmp old new key
   pub listed : (key : K) → IsListed old key → IsListed new key
   pub rows : (i : ℕ) (row : Row K V) → slice_get old.rows i ≡ Some row → (HasEntry cmp entries row.key → ⊥) → slice_get new.rows i ≡ Some row
   pub apart : (key : K) → IsFreshKey old.rows old.fresh key → ((atom : K) → HasEntry cmp entries atom → Meets m (atoms_of m cmp old.rows) atom key → ⊥) → IsFreshKey new.rows new.fresh key

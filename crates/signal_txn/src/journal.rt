@@ -50,7 +50,7 @@ pub(crate) fn commit<K: Ord + Drop, V: Drop>(
     let Some(level) = levels.pop() else {
         unreachable!();
     };
-    let writes = level.into_writes();
+    let (_, writes) = level.into_parts();
     let depth = levels.len();
     if depth == 0 {
         ring.append(writes);

@@ -87,19 +87,12 @@ impl<K: Ord + Drop, V: Drop> Level<K, V> {
         self.last.append(later);
     }
 
-    // The writes.
-    pub(crate) fn into_writes(self) -> LastWrites<K, V>
-        ensures { result ≡ self.last }
+    // The values before, and the writes.
+    pub(crate) fn into_parts(self) -> (BTreeMap<K, V>, LastWrites<K, V>)
+        ensures before { result.0.entries ≡ self.before }
+        ensures last { result.1 ≡ self.last }
     {
-        let Level { before: _, last } = self;
-        last
-    }
-
-    // The values before.
-    pub(crate) fn into_before(self) -> BTreeMap<K, V>
-        ensures { result.entries ≡ self.before }
-    {
-        let Level { before, last: _ } = self;
-        before
+        let Level { before, last } = self;
+        (before, last)
     }
 }

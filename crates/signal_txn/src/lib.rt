@@ -14,6 +14,6 @@ pub mod txn;
 pub mod write;
 
 pub use rooms_val::TxnFault;
-pub use signal_core::{Ask, Rules, WatchFault, WatchId};
+pub use signal_core::{Ask, News, Rules, WatchFault, WatchId};
 pub use since::Since;
 pub use txn::Txn;

@@ -80,7 +80,7 @@ pub(crate) fn set_noted<R: Rules + Drop>(
     }
 }
 
-// Puts values back at atoms that have rows, without memory.
+// Puts values back at atoms that have rows, all at one epoch, without memory.
 pub(crate) fn put_back_all<R: Rules + Drop>(
     graph: &mut Graph<R>,
     before: BTreeMap<R::Key, R::Value>,
@@ -91,8 +91,9 @@ pub(crate) fn put_back_all<R: Rules + Drop>(
     ensures back { ArePutBack (R.meaning graph.old.values.rules) R.Key.cmp graph.old.values graph.new.values before.entries }
     ensures watches { graph.new.watches ≡ graph.old.watches }
 {
+    let epoch = graph.next_epoch();
     let mut rest = before;
     'entries: while let Some((key, value)) = rest.pop_first() {
-        let _ = graph.put_back(&key, value);
+        let _ = graph.put_back(&key, value, epoch);
     }
 }

@@ -4,6 +4,7 @@ ghost use Rattle.signal_values.specs.Seen.{value_in, IsFreshIn, changed_in};
 ghost use Rattle.signal_values.specs.Kept.{IsFreshKey};
 ghost use Rattle.signal_core.specs.Due.{AreDue, AreTold, AreFreshKeys, AreFreshIn};
 ghost use Rattle.signal_core.specs.Gots.{AreGot};
+ghost use Rattle.signal_core.specs.News.{AreNewsOf};
 ghost use Rattle.signal_core.specs.Watches.{IsLeastFree, IsWatched, IsFull, AddsWatch, DropsWatch};
 ghost use Rattle.signal_core.specs.declared.watch.WatchFault.{WatchFault as watch_fault};
 ghost use Rattle.signal_txn.specs.LastWrites.{no_writes};
@@ -18,7 +19,7 @@ use crate::noting::{put_back_all, set_noted};
 use crate::since::{Since, copies_after};
 use crate::write::Write;
 use rooms_val::{Mem, Steps, TxnFault};
-use signal_core::{Graph, Rules, WatchFault, WatchId};
+use signal_core::{Graph, News, Rules, WatchFault, WatchId};
 use std::alloc::Global;
 use std::marker::Model;
 use std::sync::ledger::Ledger;
@@ -86,7 +87,7 @@ impl<R: Rules + Drop> Txn<R> {
         self.graph.atom(key)
     }
 
-    /// The epoch of the write that last changed the value of a key: none exactly where the key was
+    /// The epoch after the call that last changed the value of a key: none exactly where the key was
     /// neither set nor computed.
     pub fn changed_at(&self, key: &R::Key) -> Option<u64>
         ensures { result ≡ changed_in R.Key.cmp self.now.graph.values key.now }
@@ -145,6 +146,45 @@ impl<R: Rules + Drop> Txn<R> {
         ensures journal { self.new.journal ≡ self.old.journal }
     {
         self.graph.unwatch(id)
+    }
+
+    /// What the watches have to tell: which of them are due, those whose value differs from what was
+    /// last told, a new watch always. Nothing counts as told until [`Txn::tell`]. No transaction is
+    /// open.
+    ///
+    /// It costs a `get` of each key that is watched, and two copies of each value that is due.
+    ///
+    /// # Errors
+    ///
+    /// Memory was refused; atoms and the epoch are as they were, and fresh keys stay so.
+    pub fn news<L: Ledger>(&mut self, alloc: Global, steps: &mut Steps<L>) -> Mem<News<R::Value>>
+        requires { self.old.journal.levels ≡ [] }
+        ensures news { IfOk result (λ news.
+            AreNewsOf (R.meaning self.new.graph.values.rules) R.Key.cmp self.new.graph news) }
+        ensures due { IfOk result (λ news.
+            AreDue (R.meaning self.old.graph.values.rules) R.Key.cmp self.old.graph news.due.items) }
+        ensures watches { self.new.graph.watches ≡ self.old.graph.watches }
+        ensures got { AreGot (R.meaning self.old.graph.values.rules) R.Key.cmp self.old.graph.values self.new.graph.values }
+        ensures journal { self.new.journal ≡ self.old.journal }
+        ensures fresh { OnOk result (AreFreshKeys self.old.graph.watches self.new.graph.values) }
+        ensures free { AreFreshIn self.old.graph.watches self.old.graph.values → steps.new ≡ steps.old }
+    {
+        self.graph.news(alloc, steps)
+    }
+
+    /// Tells the news of this graph as it is, and gives which watches were due, each with its value,
+    /// by rising number. From then on these values count as told. No transaction is open.
+    ///
+    /// It takes no memory. It costs a look at each watch.
+    pub fn tell(&mut self, news: News<R::Value>) -> Vec<(WatchId, R::Value)>
+        requires closed { self.old.journal.levels ≡ [] }
+        requires news { AreNewsOf (R.meaning self.old.graph.values.rules) R.Key.cmp self.old.graph news }
+        ensures due { result.items ≡ news.due.items }
+        ensures told { AreTold (R.meaning self.old.graph.values.rules) R.Key.cmp self.old.graph self.new.graph.watches }
+        ensures values { self.new.graph.values ≡ self.old.graph.values }
+        ensures journal { self.new.journal ≡ self.old.journal }
+    {
+        self.graph.tell(news)
     }
 
     /// The watches whose value differs from what was last told, a new watch always, each with its
@@ -242,7 +282,8 @@ impl<R: Rules + Drop> Txn<R> {
     }
 
     /// Closes the newest transaction, of which there is one, and puts the atoms back at which it
-    /// began. It takes no memory, and costs its keys and what becomes stale.
+    /// began. The epoch rises once where one of them differs, and those that differ changed then. It
+    /// takes no memory, and costs its keys and what becomes stale.
     pub fn abort(&mut self)
         requires { self.old.journal.levels ≢ [] }
         ensures { IsAborted (R.meaning self.old.graph.values.rules) R.Key.cmp self.old self.new }
@@ -250,7 +291,8 @@ impl<R: Rules + Drop> Txn<R> {
         let Some(level) = self.levels.pop() else {
             unreachable!();
         };
-        put_back_all(&mut self.graph, level.into_before());
+        let (before, _) = level.into_parts();
+        put_back_all(&mut self.graph, before);
     }
 
     /// The committed writes after an epoch in their order, as far as they are among the last 256.

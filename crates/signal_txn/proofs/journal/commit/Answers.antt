@@ -13,4 +13,4 @@ returns g c =
     let long : suc i ≡ length items = omega (arith, c.len-depth.ensures, c.if-depth-eq0.false) in
     let at = slice_get_read items (length items) i outer refl (omega (arith, long)) c.index_mut.ensures.value in
     committed_newest items c.args.levels.now.items c.args.ring.now i c.in-Some.level outer c.append-2.new.self c.in-Some.ensures.items (newest items i outer c.append-2.new.self long at)
-    (c.append-2.ensures ∙ ap (λ (w : LastWrites g.row.K.Denot g.row.V.Denot). let new : Level g.row.K.Denot g.row.V.Denot = record outer { last = followed outer.last w } in new) c.into_writes-writes.ensures)
+    (c.append-2.ensures ∙ ap (λ (w : LastWrites g.row.K.Denot g.row.V.Denot). let new : Level g.row.K.Denot g.row.V.Denot = record outer { last = followed outer.last w } in new) c.into_parts-writes.ensures.last)

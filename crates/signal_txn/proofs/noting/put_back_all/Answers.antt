@@ -1,7 +1,7 @@
 use Rattle.std.proofs.Common.{◌≡◌, refl, sym, ◌∙◌, subst}
 use Rattle.signal_values.specs.Seen.{IsPutBack}
 use Rattle.signal_txn.proofs.EntryLemmas.{exact}
-use Rattle.signal_txn.proofs.PutBackLemmas.{putting_start, putting_more, putting_end, putting_first, nothing_left, false_true}
+use Rattle.signal_txn.proofs.PutBackLemmas.{putting_start, putting_more, putting_epoch, putting_end, putting_first, nothing_left, false_true}
 use Rattle.signal_txn.proofs.noting.put_back_all.Goals as goal
 
 pub entries-init : goal.entries-init
@@ -16,9 +16,9 @@ entries-preserved g c =
     let x = exact cmp g.met.R.Key.Ord.total g.met.R.Rules.same_keys in
     let p = c.entries.invariant.putting in
     record {
-      putting = putting_more (g.R.Rules.meaning c.args.graph.now.values.rules) cmp x c.args.graph.now.values c.entries.graph.values c.put_back.new.self.values c.args.before.entries c.entries.rest.entries c.pop_first.new.self.entries c.in-Some.key c.in-Some.value
+      putting = putting_more (g.R.Rules.meaning c.args.graph.now.values.rules) cmp x c.args.graph.now.values c.entries.graph.values c.put_back.new.self.values c.args.before.entries c.entries.rest.entries c.pop_first.new.self.entries c.in-Some.key c.in-Some.value c.next_epoch-epoch.result c.next_epoch-epoch.ensures
           c.in-Some.ensures.removal c.in-Some.ensures.updates.1
-          (subst (λ (r : g.row.R.Denot). IsPutBack (g.R.Rules.meaning r) cmp c.entries.graph.values c.put_back.new.self.values c.in-Some.key c.in-Some.value) p.rules c.put_back.ensures.set) p;
+          (subst (λ (r : g.row.R.Denot). IsPutBack (g.R.Rules.meaning r) cmp c.entries.graph.values c.put_back.new.self.values c.in-Some.key c.in-Some.value c.next_epoch-epoch.result) p.rules c.put_back.ensures.set) p;
       watches = c.put_back.ensures.watches ∙ c.entries.invariant.watches;
     }
 
@@ -32,6 +32,7 @@ put_back-requires g c =
     record {
       rank = subst (λ (r : g.row.R.Denot). (g.R.Rules.meaning r).rank c.in-Some.key ≡ 0) (sym p.rules) (c.requires.atoms c.in-Some.key has);
       listed = p.listed c.in-Some.key (c.requires.listed c.in-Some.key has);
+      epoch = putting_epoch m cmp c.args.graph.now.values c.entries.graph.values c.args.before.entries c.entries.rest.entries c.next_epoch-epoch.result c.next_epoch-epoch.ensures p;
     }
 
 pub returns : goal.returns
