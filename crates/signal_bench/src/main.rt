@@ -94,7 +94,7 @@ fn list(alloc: Global, size: u32, call: u32) -> Mem<Ids> {
         let id = format!(in alloc; "shape:{number:06}")?;
         ids.push(Text::of(alloc, id.as_str())?)?;
     }
-    Ok(Ids::of(ids))
+    Ids::of(alloc, ids)
 }
 
 /// What the words ask for, where they are three of these.

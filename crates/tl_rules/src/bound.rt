@@ -60,7 +60,8 @@ fn merge(alloc: Global, left: &[Text], right: &[Text]) -> Mem<Ids>
     }
     add_all(alloc, &mut ids, &left[i..])?;
     add_all(alloc, &mut ids, &right[j..])?;
-    Ok(Ids::of(ids))
+    let merged = Ids::of(alloc, ids)?;
+    Ok(merged)
 }
 
 // Adds copies of some ids.

@@ -1,23 +1,26 @@
-//! A list of ids.
+//! A list of ids, which its copies share.
 ghost use Rattle.std.specs.Prelude.{◌≡◌, ◌↔◌, [], length, IsTrue, IfOk};
 ghost use Rattle.tl_rules.specs.Ids.{ids_eq, ids_equiv, ids_per};
 
 use rooms_val::{Mem, Text};
 use std::alloc::Global;
 use std::marker::Model;
+use std::sync::Arc;
 
-/// A list of ids. Contracts see the list.
+/// A list of ids, which its copies share. Contracts see the list.
 #[derive(Drop)]
 pub struct Ids {
-    items: Vec<Text>,
+    // Nothing where there are no ids.
+    items: Option<Arc<Vec<Text>>>,
 }
 
 impl Model for Ids {
     ghost use Rattle.std.specs.Prelude.{List, ℕ};
+    ghost use Rattle.rooms_val.specs.Shared.{held};
 
     ghost Value = { List (List ℕ) };
 
-    ghost view = { λ ids. ids.items.items };
+    ghost view = { λ ids. held ids.items };
 }
 
 impl PartialEq for Ids {
@@ -36,61 +39,62 @@ impl Eq for Ids {
 
 impl Ids {
     /// No ids.
-    pub fn new(alloc: Global) -> Ids
+    pub fn new() -> Ids
         ensures { result ≡ [] }
     {
-        Ids {
-            items: Vec::new(alloc),
-        }
+        Ids { items: None }
     }
 
-    /// These ids.
-    pub fn of(items: Vec<Text>) -> Ids
-        ensures { result ≡ items.items }
+    /// These ids, which copies will share.
+    ///
+    /// # Errors
+    ///
+    /// Memory was refused.
+    pub fn of(alloc: Global, items: Vec<Text>) -> Mem<Ids>
+        ensures { IfOk result (λ ids. ids ≡ items.items) }
     {
-        Ids { items }
+        Ok(Ids {
+            items: Some(Arc::new(alloc, items)?),
+        })
     }
 
     /// How many ids there are.
     pub fn len(&self) -> usize
         ensures { result ≡ length self.now }
     {
-        self.items.len()
+        self.as_slice().len()
     }
 
     /// Whether there are none.
     pub fn is_empty(&self) -> bool
         ensures { IsTrue result ↔ (self.now ≡ []) }
     {
-        self.items.is_empty()
+        self.as_slice().is_empty()
     }
 
     /// The ids in order.
     pub fn as_slice(&self) -> &[Text]
         ensures { result.now ≡ self.now }
     {
-        &self.items
+        match &self.items {
+            Some(items) => items,
+            None => &[],
+        }
     }
 
-    /// The ids in order, given back without taking memory.
-    pub fn into_vec(self) -> Vec<Text>
-        ensures { result.items ≡ self }
-    {
-        self.items
-    }
-
-    /// An equal list.
+    /// An equal list, at the cost of counting one more owner. It takes no memory.
     ///
     /// # Errors
     ///
-    /// Memory was refused.
-    pub fn copy(&self, alloc: Global) -> Mem<Ids>
+    /// There are 2^63 owners.
+    pub fn copy(&self) -> Mem<Ids>
         ensures { IfOk result (λ ids. ids ≡ self.now) }
     {
-        let mut items = Vec::with_capacity(alloc, self.items.len())?;
-        'ids: for id in &self.items {
-            items.push(id.copy(alloc)?)?;
+        match &self.items {
+            None => Ok(Ids { items: None }),
+            Some(items) => Ok(Ids {
+                items: Some(Arc::try_clone(items)?),
+            }),
         }
-        Ok(Ids { items })
     }
 }

@@ -35,7 +35,7 @@ impl Rules for TlRules {
     fn blank(&self, alloc: Global, key: &TlKey) -> Mem<TlValue> {
         match key {
             TlKey::Rec(_) => Ok(TlValue::Rec(None)),
-            _ => Ok(TlValue::Ids(Ids::new(alloc))),
+            _ => Ok(TlValue::Ids(Ids::new())),
         }
     }
 

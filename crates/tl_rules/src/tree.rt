@@ -149,5 +149,5 @@ fn copied(alloc: Global, ids: &[&Text]) -> Mem<Ids>
     'ids: for id in ids {
         copies.push(id.copy(alloc)?)?;
     }
-    Ok(Ids::of(copies))
+    Ids::of(alloc, copies)
 }

@@ -70,7 +70,7 @@ impl TlValue {
         Ok(match self {
             TlValue::Rec(None) => TlValue::Rec(None),
             TlValue::Rec(Some(record)) => TlValue::Rec(Some(copy_record(alloc, record)?)),
-            TlValue::Ids(ids) => TlValue::Ids(ids.copy(alloc)?),
+            TlValue::Ids(ids) => TlValue::Ids(ids.copy()?),
             TlValue::Number(number) => TlValue::Number(*number),
             TlValue::Rect(rect) => TlValue::Rect(*rect),
         })

@@ -6,7 +6,7 @@ use Rattle.tl_rules.proofs.bound.merge.Goals.{then-both-test+else-j-right, else-
 
 pub returns : goal.returns
 returns c =
-    c.of.ensures
+    c.in_ok-merged.ensures
     ∙ elim c.both-test.branch [
       | then-both-test+else-j-right w ↦ right_ended c.both.ids.items (drop c.both.i c.args.left.now) (drop c.both.j c.args.right.now) c.add_all.new.ids.items c.add_all-2.new.ids.items (c.in_ok-add_all.ensures ∙ ap (λ l. c.both.ids.items ++ l) (rest_from c.args.left.now c.both.i)) (c.in_ok-add_all-2.ensures ∙ ap (λ l. c.add_all.new.ids.items ++ l) (rest_from c.args.right.now c.both.j)) (drop_all c.both.j c.args.right.now (omega arith))
       | else-both-test w ↦ left_ended c.both.ids.items (drop c.both.i c.args.left.now) (drop c.both.j c.args.right.now) c.add_all.new.ids.items c.add_all-2.new.ids.items (c.in_ok-add_all.ensures ∙ ap (λ l. c.both.ids.items ++ l) (rest_from c.args.left.now c.both.i)) (c.in_ok-add_all-2.ensures ∙ ap (λ l. c.add_all.new.ids.items ++ l) (rest_from c.args.right.now c.both.j)) (drop_all c.both.i c.args.left.now (omega arith))
