@@ -1,0 +1,10 @@
+pub mod RecordLemmas
+pub mod FrameLemmas
+pub mod LeadLemmas
+pub mod ListLemmas
+pub mod CallLemmas
+pub mod TreeLemmas
+pub mod WriteLemmas
+pub mod TellLemmas
+pub mod ReplaceLemmas
+pub mod TurnLemmas

@@ -1,0 +1,52 @@
+use Rattle.std.proofs.Common.{◌≡◌, ◌<◌, length, sym, ap, subst, ◌∙◌}
+use Rattle.std.specs.List.{remove}
+use Rattle.rooms_val.specs.View.{data_of}
+use Rattle.tl_rules.specs.declared.key.TlKey.{TlKey}
+use Rattle.tl_rules.specs.declared.value.TlValue.TheVariants as value
+use Rattle.board_lists.specs.Listings.{key_of, listed}
+use Rattle.record_store.specs.Lists.{atoms_of, records_of, ChangesOnly}
+use Rattle.record_store.proofs.FrameLemmas.{wider, on_ok}
+use Rattle.record_store.proofs.ListLemmas.{ids_are, place_to_leave, within_list, unlisted, unlisted_nowhere}
+use Rattle.record_store.proofs.RecordLemmas.{rising-records}
+use Rattle.record_store.proofs.lists.unlist.Goals as goal
+
+pub returns-in_default-clause-lists : goal.returns-in_default-clause-lists
+returns-in_default-clause-lists c =
+    unlisted_nowhere c.args.listing (records_of c.args.keys.now c.args.graph.now) c.args.id.now (data_of c.args.record_.now)
+    (rising-records c.args.keys.now (atoms_of c.args.graph.now)) c.args.graph.now c.requires.lists c.requires.there (sym c.in_default.ensures)
+
+pub without_id-requires : goal.without_id-requires
+without_id-requires c =
+    let l = c.args.listing in
+    let m = records_of c.args.keys.now c.args.graph.now in
+    let id = c.args.id.now in
+    let d = data_of c.args.record_.now in
+    let owner = c.in-Some.owner.now in
+    let n = c.place_among-place.result in
+    let rising = rising-records c.args.keys.now (atoms_of c.args.graph.now) in
+    let ids : c.ids_at-ids.result.now ≡ listed l m owner = ids_are l c.args.graph.now m owner c.in_ok-key.key c.ids_at-ids.result.now c.requires.lists c.in_ok-key.ensures c.ids_at-ids.ensures in
+    let point = place_to_leave l m id d rising owner c.index.result.now c.ids_at-ids.result.now n c.index.ensures ids c.place_among-place.ensures.place in
+    subst (λ xs. n < length xs) (sym ids) (within_list l m id d rising owner n c.requires.there (sym c.in-Some.ensures) point)
+
+pub returns-clause-lists : goal.returns-clause-lists
+returns-clause-lists c =
+    let l = c.args.listing in
+    let m = records_of c.args.keys.now c.args.graph.now in
+    let id = c.args.id.now in
+    let d = data_of c.args.record_.now in
+    let owner = c.in-Some.owner.now in
+    let key = c.in_ok-key.key in
+    let n = c.place_among-place.result in
+    let rising = rising-records c.args.keys.now (atoms_of c.args.graph.now) in
+    let ids : c.ids_at-ids.result.now ≡ listed l m owner = ids_are l c.args.graph.now m owner key c.ids_at-ids.result.now c.requires.lists c.in_ok-key.ensures c.ids_at-ids.ensures in
+    let point = place_to_leave l m id d rising owner c.index.result.now c.ids_at-ids.result.now n c.index.ensures ids c.place_among-place.ensures.place in
+    let change : ChangesOnly (λ k. k ≡ key_of l owner) c.args.graph.now c.set_atom.new.graph =
+    subst (λ (x : TlKey). ChangesOnly (λ k. k ≡ x) c.args.graph.now c.set_atom.new.graph) c.in_ok-key.ensures c.set_atom.ensures.left in
+    on_ok c.set_atom.result
+    (λ here. unlisted l m id d rising c.args.graph.now c.set_atom.new.graph owner n c.requires.lists c.requires.there (sym c.in-Some.ensures) point change
+    (ap (atoms_of c.set_atom.new.graph) (sym c.in_ok-key.ensures) ∙ here ∙ ap value.Ids (c.in_ok-rest.ensures ∙ ap (λ xs. remove xs n) ids)))
+    c.set_atom.ensures.ok
+
+pub returns-clause-left : goal.returns-clause-left
+returns-clause-left c =
+    wider (λ k. k ≡ c.in_ok-key.key) _ c.args.graph.now c.set_atom.new.graph (λ k e. (c.in-Some.owner.now, sym c.in-Some.ensures, e ∙ c.in_ok-key.ensures)) c.set_atom.ensures.left

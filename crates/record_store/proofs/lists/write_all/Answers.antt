@@ -1,0 +1,49 @@
+use Rattle.std.proofs.Common.{◌≡◌, Option, inr, sym, ap, subst, ◌∙◌}
+use Rattle.rooms_val.specs.Data.{Data}
+use Rattle.field_ops.specs.View.{maybe_data}
+use Rattle.tl_rules.specs.declared.key.TlKey.TheVariants as key
+use Rattle.tl_rules.specs.declared.value.TlValue.TheVariants as value
+use Rattle.record_store.specs.Lists.{atoms_of, IsWritten, IsTold, ChangesOnly}
+use Rattle.record_store.proofs.FrameLemmas.{wider}
+use Rattle.record_store.proofs.WriteLemmas.{IsSetAfter, records_set, board_set, told_set, all_changed}
+use Rattle.record_store.proofs.lists.write_all.Goals as goal
+
+pub returns-in_err-relist_all-clause-left : goal.returns-in_err-relist_all-clause-left
+returns-in_err-relist_all-clause-left c =
+    subst (λ (o : Option Data). ChangesOnly (IsWritten c.args.id.now o (maybe_data c.args.after)) c.args.graph.now c.relist_all.new.graph) (c.in_ok-before.ensures ∙ c.record_at.ensures.found)
+    (wider _ _ c.args.graph.now c.relist_all.new.graph (λ k h. inr h) c.relist_all.ensures.left)
+
+pub returns-in_err-set_atom-clause-left : goal.returns-in_err-set_atom-clause-left
+returns-in_err-set_atom-clause-left c =
+    subst (λ (o : Option Data). ChangesOnly (IsWritten c.args.id.now o (maybe_data c.args.after)) c.args.graph.now c.set_atom.new.graph) (c.in_ok-before.ensures ∙ c.record_at.ensures.found)
+    (all_changed c.args.graph.now c.relist_all.new.graph c.set_atom.new.graph c.args.id.now _ _ c.relist_all.ensures.left
+    (subst (λ q. ChangesOnly (λ k. k ≡ key.Rec q) c.relist_all.new.graph c.set_atom.new.graph) c.in_ok-of.ensures c.set_atom.ensures.left))
+
+pub returns-clause-left : goal.returns-clause-left
+returns-clause-left c =
+    subst (λ (o : Option Data). ChangesOnly (IsWritten c.args.id.now o (maybe_data c.args.after)) c.args.graph.now c.set_atom.new.graph) (c.in_ok-before.ensures ∙ c.record_at.ensures.found)
+    (all_changed c.args.graph.now c.relist_all.new.graph c.set_atom.new.graph c.args.id.now _ _ c.relist_all.ensures.left
+    (subst (λ q. ChangesOnly (λ k. k ≡ key.Rec q) c.relist_all.new.graph c.set_atom.new.graph) c.in_ok-of.ensures c.set_atom.ensures.left))
+
+-- the lists moved, and then the record was set
+setting : (c : goal.In_ok-set_atom) → IsSetAfter c.args.keys.now c.args.graph.now c.relist_all.new.graph c.set_atom.new.graph c.args.id.now (maybe_data c.in_ok-before.before) c.args.after
+setting c = record {
+  keys_are = c.record_at.ensures.keys;
+  known = c.requires.known;
+  board = c.requires.board;
+  moved = c.relist_all.ensures.left;
+  set = subst (λ q. ChangesOnly (λ k. k ≡ key.Rec q) c.relist_all.new.graph c.set_atom.new.graph) c.in_ok-of.ensures c.set_atom.ensures.left;
+  here = ap (λ q. atoms_of c.set_atom.new.graph (key.Rec q)) (sym c.in_ok-of.ensures) ∙ c.in_ok-set_atom.ensures.ok;
+}
+
+pub returns-clause-ok : goal.returns-clause-ok
+returns-clause-ok c = records_set c.args.keys.now c.args.graph.now c.relist_all.new.graph c.set_atom.new.graph c.args.id.now (maybe_data c.in_ok-before.before) c.args.after (setting c)
+
+pub returns-clause-board : goal.returns-clause-board
+returns-clause-board c =
+    board_set c.args.keys.now c.args.graph.now c.relist_all.new.graph c.set_atom.new.graph c.args.id.now (maybe_data c.in_ok-before.before) c.args.after (setting c) c.tell_sound.ensures c.in_ok-relist_all.ensures.lists
+
+pub returns-clause-told : goal.returns-clause-told
+returns-clause-told c =
+    told_set c.args.keys.now c.args.graph.now c.relist_all.new.graph c.set_atom.new.graph c.args.id.now (maybe_data c.in_ok-before.before) c.args.after (setting c)
+    (subst (λ q. IsTold (key.Rec q) (value.Rec c.args.after) c.relist_all.new.graph c.set_atom.new.graph) c.in_ok-of.ensures c.in_ok-set_atom.ensures.told)

@@ -1,0 +1,57 @@
+-- In which order writes stand, and what those since an epoch tell.
+use Rattle.std.specs.Prelude.{◌≡◌, ◌⊎◌, ℕ, ◌<◌, ◌≤◌, List, [], ◌∷◌, length}
+use Rattle.std.specs.List.{fold}
+use Rattle.rooms_val.specs.Data.{Pairs}
+use Rattle.rooms_val.specs.Maps.{set_at}
+use Rattle.signal_txn.specs.declared.write.Write.{Write}
+use Rattle.signal_txn.specs.LastWrites.{LastWrites}
+use Rattle.signal_txn.specs.Level.{Level}
+use Rattle.signal_txn.specs.Since.{IsUnknown, diffs_after}
+use Rattle.tl_rules.specs.Answers.{record_in}
+use Rattle.tl_rules.specs.declared.key.TlKey.{TlKey}
+use Rattle.tl_rules.specs.declared.key.TlKey.TheVariants as key
+use Rattle.tl_rules.specs.declared.value.TlValue.{TlValue}
+use Rattle.record_store.specs.Seen.{Seen, records, epoch, ring}
+
+-- the epochs of some writes rise, from above one epoch up to another
+abbrev pub Rise : {K V : Type 0} → ℕ → List (Write K V) → ℕ → Type 0
+Rise low [] high = low ≤ high
+Rise low (write ∷ writes) high = (low < write.epoch) × Rise write.epoch writes high
+
+-- the last of the writes from above one epoch up to another: any that fell out came before, and then as many are kept as may be
+pub record IsInTurn {K V : Type 0} (low high : ℕ) (last : LastWrites K V) : Type 0 where
+  pub above : Rise low last.writes high
+  pub fallen : Rise last.dropped last.writes high
+  pub full : 0 < last.dropped → 256 ≤ length last.writes
+
+-- the writes of each open transaction, the newest first, came after those of the one around it, and after what is committed
+abbrev pub AreInTurn : {K V : Type 0} → List (Level K V) → LastWrites K V → ℕ → Type 0
+AreInTurn [] ring high = IsInTurn 0 high ring
+AreInTurn (level ∷ around) ring high = (low : ℕ) × IsInTurn low high level.last × AreInTurn around ring low
+
+-- the records after a write of an atom, which changes them where it is that of a record
+abbrev pub written_under : Pairs → TlKey → TlValue → Pairs
+written_under m (key.Rec id) v = set_at m id (record_in v)
+written_under m (key.ByParent id) v = m
+written_under m (key.BoundFrom id) v = m
+written_under m (key.BoundTo id) v = m
+written_under m (key.Bound id) v = m
+written_under m (key.Tree page) v = m
+written_under m (key.Count page) v = m
+written_under m (key.Box id levels) v = m
+
+abbrev pub written : Pairs → TlKey × TlValue → Pairs
+written m w = written_under m w.0 w.1
+
+-- the records after some writes, the oldest first
+abbrev pub written_all : Pairs → List (TlKey × TlValue) → Pairs
+written_all = fold written
+
+-- what a store tells of the writes since an epoch leads from some records to its own
+abbrev pub TellsFrom : Seen → ℕ → Pairs → Type 0
+TellsFrom store since m = written_all m (diffs_after since (ring store).writes) ≡ records store
+
+-- of an epoch that was reached the store tells no more, or it told before, and what it tells leads on to its records
+abbrev pub TellsOn : Seen → Seen → Type 0
+TellsOn old new = (since : ℕ) → since ≤ epoch old
+    → IsUnknown new.txn since ⊎ ((IsUnknown old.txn since → ⊥) × ((m : Pairs) → TellsFrom old since m → TellsFrom new since m))

@@ -1,0 +1,277 @@
+//! The lists of a board, as records change.
+ghost use Rattle.std.specs.Prelude.{◌≡◌, ◌≤◌, ℕ, List, length, Some, IsTrue, IfOk, OnOk};
+ghost use Rattle.std.specs.List.Sorted.{IsPartitionedBy};
+ghost use Rattle.rooms_val.specs.Data.{IsSoundRecord};
+ghost use Rattle.rooms_val.specs.Maps.{value_at, set_at, without_key, with_key};
+ghost use Rattle.rooms_val.specs.View.{data_of};
+ghost use Rattle.shape_tree.specs.View.{maybe_data};
+ghost use Rattle.field_ops.specs.View.{maybe_data as owned_data};
+ghost use Rattle.tl_rules.specs.Answers.{ids_in, record_in};
+ghost use Rattle.tl_rules.specs.Meaning.{rank_of};
+ghost use Rattle.tl_rules.specs.declared.key.TlKey.TheVariants as key_of;
+ghost use Rattle.tl_rules.specs.declared.value.TlValue.TheVariants as told;
+ghost use Rattle.board_lists.specs.declared.listing.Listing.{Listing as Kind};
+ghost use Rattle.board_lists.specs.Laws.{IsPlaceAmong};
+ghost use Rattle.board_lists.specs.Listings.{is_before, owner_of, index_of};
+ghost use Rattle.record_store.specs.Kept.{IsBoard};
+ghost use Rattle.record_store.specs.Seen.{AreKeys};
+ghost use Rattle.record_store.specs.Lists.{atoms_of, records_of, place_at, AreLists, IsListOf, IsMoved, IsRelisted, IsWritten, IsTold, AreTold, ChangesOnly};
+
+use crate::keys::Keys;
+use board_lists::{Listing, with_id, without_id};
+use rooms_val::{Mem, Text, Val};
+use signal_txn::Txn;
+use std::alloc::Global;
+use tl_rules::{TlKey, TlRules, TlValue};
+
+// The record that an atom has, if there is one.
+pub(crate) fn record_of<'a>(graph: &'a Txn<TlRules>, key: &TlKey) -> Option<&'a Val>
+    requires { rank_of key.now ≡ 0 }
+    ensures { maybe_data result ≡ record_in (atoms_of graph.now key.now) }
+{
+    graph.atom(key)?.record()
+}
+
+// The record under an id, if there is one.
+pub(crate) fn record_at<'a>(graph: &'a Txn<TlRules>, keys: &Keys, id: &str) -> Option<&'a Val>
+    ensures found { maybe_data result ≡ value_at (records_of keys.now graph.now) id.now }
+    ensures keys { AreKeys keys.now }
+{
+    record_of(graph, keys.get(id)?)
+}
+
+// The ids that an atom lists.
+fn ids_at<'a>(graph: &'a Txn<TlRules>, key: &TlKey) -> &'a [Text]
+    requires { rank_of key.now ≡ 0 }
+    ensures { result.now ≡ ids_in (atoms_of graph.now key.now) }
+{
+    match graph.atom(key) {
+        Some(value) => value.ids(),
+        None => &[],
+    }
+}
+
+// Where a record of an index and an id stands among ids, or would stand. It costs a look-up for each halving.
+fn place_among(
+    graph: &Txn<TlRules>,
+    keys: &Keys,
+    listing: Listing,
+    ids: &[Text],
+    index: &str,
+    id: &str,
+) -> usize
+    ensures bound { result ≤ length ids.now }
+    ensures place { IsPartitionedBy
+        (is_before listing (records_of keys.now graph.now) (place_at index.now id.now)) ids.now
+        → IsPlaceAmong listing (records_of keys.now graph.now) (place_at index.now id.now) ids.now result }
+{
+    ids.partition_point(|other| {
+        listing.is_before(
+            record_at(graph, keys, other.as_str()),
+            other.as_str(),
+            index,
+            id,
+        )
+    })
+}
+
+// Takes an id out of the list in which its record stands, which is this. It costs three copies of the list.
+fn unlist(
+    alloc: Global,
+    graph: &mut Txn<TlRules>,
+    keys: &Keys,
+    listing: Listing,
+    id: &str,
+    record_: &Val,
+) -> Mem<()>
+    requires lists { AreLists listing graph.old (records_of keys.now graph.old) }
+    requires there { value_at (records_of keys.now graph.old) id.now ≡ Some (data_of record_.now) }
+    ensures lists { OnOk result
+        (AreLists listing graph.new (without_key (records_of keys.now graph.old) id.now)) }
+    ensures left { ChangesOnly (IsListOf listing id.now (Some (data_of record_.now))) graph.old graph.new }
+{
+    let Some(owner) = listing.owner(id, record_) else {
+        return Ok(());
+    };
+    let key = listing.key(alloc, owner)?;
+    let ids = ids_at(graph, &key);
+    let place = place_among(graph, keys, listing, ids, listing.index(record_), id);
+    let rest = without_id(alloc, ids, place)?;
+    set_atom(alloc, graph, key, TlValue::Ids(rest))
+}
+
+// Puts an id into the list in which its record is to stand, which is this. It costs three copies of the list.
+fn enlist(
+    alloc: Global,
+    graph: &mut Txn<TlRules>,
+    keys: &Keys,
+    listing: Listing,
+    id: &str,
+    record_: &Val,
+) -> Mem<()>
+    requires lists { AreLists listing graph.old (without_key (records_of keys.now graph.old) id.now) }
+    ensures lists { OnOk result (AreLists listing graph.new
+        (with_key (records_of keys.now graph.old) id.now (data_of record_.now))) }
+    ensures left { ChangesOnly (IsListOf listing id.now (Some (data_of record_.now))) graph.old graph.new }
+{
+    let Some(owner) = listing.owner(id, record_) else {
+        return Ok(());
+    };
+    let key = listing.key(alloc, owner)?;
+    let ids = ids_at(graph, &key);
+    let place = place_among(graph, keys, listing, ids, listing.index(record_), id);
+    let more = with_id(alloc, ids, place, id)?;
+    set_atom(alloc, graph, key, TlValue::Ids(more))
+}
+
+// Sets an atom.
+fn set_atom(alloc: Global, graph: &mut Txn<TlRules>, key: TlKey, value: TlValue) -> Mem<()>
+    requires { rank_of key ≡ 0 }
+    ensures ok { OnOk result (atoms_of graph.new key ≡ value) }
+    ensures left { ChangesOnly (λ k. k ≡ key) graph.old graph.new }
+    ensures told { OnOk result (IsTold key value graph.old graph.new) }
+{
+    let _ = graph.set(alloc, key, value)?;
+    Ok(())
+}
+
+// Whether a record stands in its list where another does under the same id.
+fn stands_alike(listing: Listing, id: &str, before: &Val, after: &Val) -> bool
+    ensures owner { IsTrue result
+        → owner_of listing (id.now, data_of before.now) ≡ owner_of listing (id.now, data_of after.now) }
+    ensures index { IsTrue result
+        → index_of listing (data_of before.now) ≡ index_of listing (data_of after.now) }
+{
+    listing.owner(id, before) == listing.owner(id, after)
+        && listing.index(before) == listing.index(after)
+}
+
+// Moves an id from the list in which its record stands to the one where the record is to stand that follows. It costs what
+// both cost, and nothing where that is to stand as the record does.
+fn move_id(
+    alloc: Global,
+    graph: &mut Txn<TlRules>,
+    keys: &Keys,
+    listing: Listing,
+    id: &str,
+    before: &Val,
+    after: &Val,
+) -> Mem<()>
+    requires keys { AreKeys keys.now }
+    requires lists { AreLists listing graph.old (records_of keys.now graph.old) }
+    requires there { value_at (records_of keys.now graph.old) id.now ≡ Some (data_of before.now) }
+    ensures lists { OnOk result (AreLists listing graph.new
+        (with_key (records_of keys.now graph.old) id.now (data_of after.now))) }
+    ensures left { ChangesOnly
+        (IsMoved listing id.now (Some (data_of before.now)) (Some (data_of after.now)))
+        graph.old graph.new }
+{
+    if stands_alike(listing, id, before, after) {
+        return Ok(());
+    }
+    unlist(alloc, graph, keys, listing, id, before)?;
+    enlist(alloc, graph, keys, listing, id, after)
+}
+
+// Moves an id from the list in which its record stands, if there is one, to that in which the record is to stand that
+// follows, if there is one.
+fn relist(
+    alloc: Global,
+    graph: &mut Txn<TlRules>,
+    keys: &Keys,
+    listing: Listing,
+    id: &str,
+    before: &Option<Val>,
+    after: &Option<Val>,
+) -> Mem<()>
+    requires keys { AreKeys keys.now }
+    requires lists { AreLists listing graph.old (records_of keys.now graph.old) }
+    requires there { value_at (records_of keys.now graph.old) id.now ≡ owned_data before.now }
+    ensures lists { OnOk result (AreLists listing graph.new
+        (set_at (records_of keys.now graph.old) id.now (owned_data after.now))) }
+    ensures left { ChangesOnly
+        (IsMoved listing id.now (owned_data before.now) (owned_data after.now)) graph.old graph.new }
+{
+    match before {
+        Some(old) => {
+            match after {
+                Some(new) => move_id(alloc, graph, keys, listing, id, old, new),
+                None => unlist(alloc, graph, keys, listing, id, old),
+            }
+        }
+        None => {
+            match after {
+                Some(new) => enlist(alloc, graph, keys, listing, id, new),
+                None => Ok(()),
+            }
+        }
+    }
+}
+
+// The same in each kind of lists.
+fn relist_all(
+    alloc: Global,
+    graph: &mut Txn<TlRules>,
+    keys: &Keys,
+    id: &str,
+    before: &Option<Val>,
+    after: &Option<Val>,
+) -> Mem<()>
+    requires keys { AreKeys keys.now }
+    requires lists { (l : Kind) → AreLists l graph.old (records_of keys.now graph.old) }
+    requires there { value_at (records_of keys.now graph.old) id.now ≡ owned_data before.now }
+    ensures lists { OnOk result ((l : Kind) → AreLists l graph.new
+        (set_at (records_of keys.now graph.old) id.now (owned_data after.now))) }
+    ensures left { ChangesOnly
+        (IsRelisted id.now (owned_data before.now) (owned_data after.now)) graph.old graph.new }
+{
+    relist(alloc, graph, keys, Listing::Children, id, before, after)?;
+    relist(alloc, graph, keys, Listing::BoundFrom, id, before, after)?;
+    relist(alloc, graph, keys, Listing::BoundTo, id, before, after)
+}
+
+// Sets the record of an id, which has a key, and all lists with it, and gives the record before. Where memory is refused some
+// of that is done.
+pub(crate) fn write_all(
+    alloc: Global,
+    graph: &mut Txn<TlRules>,
+    keys: &Keys,
+    id: &str,
+    after: Option<Val>,
+) -> Mem<Option<Val>>
+    requires known { value_at keys.now id.now ≡ Some (key_of.Rec id.now) }
+    requires board { IsBoard keys.now (atoms_of graph.old) }
+    ensures old { IfOk result (λ r. owned_data r ≡ value_at (records_of keys.now graph.old) id.now) }
+    ensures ok { OnOk result
+        (records_of keys.now graph.new ≡ set_at (records_of keys.now graph.old) id.now (owned_data after)) }
+    ensures board { OnOk result (IsBoard keys.now (atoms_of graph.new)) }
+    ensures left { ChangesOnly (IsWritten id.now
+        (value_at (records_of keys.now graph.old) id.now) (owned_data after)) graph.old graph.new }
+    ensures told { OnOk result (AreTold keys.now graph.old graph.new) }
+{
+    tell_sound(&after);
+    let before = copied(alloc, record_at(graph, keys, id))?;
+    let key = TlKey::Rec(Text::of(alloc, id)?);
+    relist_all(alloc, graph, keys, id, &before, &after)?;
+    set_atom(alloc, graph, key, TlValue::Rec(after))?;
+    Ok(before)
+}
+
+// That a record is sound is told by its kind.
+fn tell_sound(record_: &Option<Val>)
+    ensures { IsSoundRecord (owned_data record_.now) }
+{
+    if let Some(val) = record_ {
+        let _ = val.kind();
+    }
+}
+
+// An equal record, if there is one.
+fn copied(alloc: Global, record_: Option<&Val>) -> Mem<Option<Val>>
+    ensures { IfOk result (λ r. owned_data r ≡ maybe_data record_.entry) }
+{
+    match record_ {
+        Some(val) => Ok(Some(val.copy(alloc)?)),
+        None => Ok(None),
+    }
+}
