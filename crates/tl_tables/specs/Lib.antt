@@ -1,4 +1,5 @@
 pub mod Fields
+pub mod View
 pub mod Parts
 pub mod Shapes
 pub mod Types

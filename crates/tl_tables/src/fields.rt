@@ -1,12 +1,24 @@
 //! Fields of maps, some of which are there at some versions alone.
-ghost use Rattle.std.specs.Prelude.{◌≡◌, IfOk, []};
+ghost use Rattle.std.specs.Prelude.{◌≡◌, IfOk, [], map};
 ghost use Rattle.record_valid.specs.View.{tree_of};
-ghost use Rattle.record_valid.specs.Tree.{object, by_type, rows_of};
+ghost use Rattle.record_valid.specs.Tree.{object, by_type, rows_of, one_of, id_of};
 ghost use Rattle.tl_tables.specs.Fields.{always, since, until, with_field, own_fields, with_fields};
+ghost use Rattle.tl_tables.specs.View.{field_tree};
 
+use crate::rules::Rule;
 use record_valid::{Check, Checks};
 use rooms_val::Mem;
 use std::alloc::Global;
+
+/// A field, by its name and what its value must be.
+pub(crate) enum Field {
+    /// At every version.
+    Always(&'static str, Rule),
+    /// From a version on.
+    Since(u32, &'static str, Rule),
+    /// Up to a version, which is the last one that has it.
+    Until(u32, &'static str, Rule),
+}
 
 /// The fields of a map at a version, with what their values must be.
 #[derive(Drop)]
@@ -36,8 +48,8 @@ impl Fields {
         ensures table { IfOk result (λ f. f.table ≡ with_fields version [] (own_fields name.now)) }
     {
         Fields::none(alloc, version)
-            .always("id", Check::id_of(alloc, &[name])?)?
-            .always("typeName", Check::one_of(alloc, &[name])?)?
+            .id_of("id", &[name])?
+            .one_of("typeName", &[name])?
             .always("meta", Check::Dict)
     }
 
@@ -77,6 +89,49 @@ impl Fields {
             return self.always(name, check);
         }
         Ok(self)
+    }
+
+    /// With an id of one of some types, at every version.
+    pub(crate) fn id_of(self, name: &str, types: &[&str]) -> Mem<Fields>
+        ensures version { IfOk result (λ f. f.version ≡ self.version) }
+        ensures table { IfOk result (λ f. f.table ≡ with_field self.version self.table (always name.now (id_of (map (λ t. t.now) types.now)))) }
+    {
+        let check = Check::id_of(self.alloc, types)?;
+        self.always(name, check)
+    }
+
+    /// With one of some texts, at every version.
+    pub(crate) fn one_of(self, name: &str, texts: &[&str]) -> Mem<Fields>
+        ensures version { IfOk result (λ f. f.version ≡ self.version) }
+        ensures table { IfOk result (λ f. f.table ≡ with_field self.version self.table (always name.now (one_of (map (λ t. t.now) texts.now)))) }
+    {
+        let check = Check::one_of(self.alloc, texts)?;
+        self.always(name, check)
+    }
+
+    /// With each of some fields, where the version has it.
+    pub(crate) fn with_each(self, rows: &[Field]) -> Mem<Fields>
+        ensures version { IfOk result (λ f. f.version ≡ self.version) }
+        ensures table { IfOk result (λ f. f.table ≡ with_fields self.version self.table (map field_tree rows.now)) }
+    {
+        let mut fields = self;
+        'rows: for row in rows {
+            fields = fields.with_row(row)?;
+        }
+        Ok(fields)
+    }
+
+    // With a field, where the version has it.
+    fn with_row(self, row: &Field) -> Mem<Fields>
+        ensures version { IfOk result (λ f. f.version ≡ self.version) }
+        ensures table { IfOk result (λ f. f.table ≡ with_field self.version self.table (field_tree row.now)) }
+    {
+        let alloc = self.alloc;
+        match row {
+            Field::Always(name, rule) => self.always(name, rule.check(alloc)?),
+            Field::Since(first, name, rule) => self.since(*first, name, rule.check(alloc)?),
+            Field::Until(last, name, rule) => self.until(*last, name, rule.check(alloc)?),
+        }
     }
 
     /// A map with exactly these fields.

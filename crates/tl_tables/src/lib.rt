@@ -10,6 +10,7 @@ mod fields;
 mod listed;
 mod migrations;
 mod parts;
+mod rules;
 mod shapes;
 pub mod tables;
 mod types;

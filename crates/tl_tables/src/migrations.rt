@@ -1,12 +1,15 @@
 //! The migrations, in sequences.
-ghost use Rattle.std.specs.Prelude.{◌≡◌, ◌↔◌, IsTrue, IfOk, map, filter};
+ghost use Rattle.std.specs.Prelude.{◌≡◌, ◌↔◌, IsTrue, IfOk, map, filter, true, [], ◌∷◌, codes};
 ghost use Rattle.migrate_seq.specs.SequencesOf.{sequences_of};
 ghost use Rattle.migrate_seq.specs.declared.fault.SeqFault.TheVariants as seq_fault;
-ghost use Rattle.tl_tables.specs.Trees.{migration_tree, sequence_tree};
+ghost use Rattle.migrate_seq.specs.declared.migration.MigScope.TheVariants as mig_scope;
+ghost use Rattle.rooms_val.specs.Data.{text};
+ghost use Rattle.tl_tables.specs.Trees as trees;
+ghost use Rattle.tl_tables.specs.Trees.{step_tree, migration_tree, sequence_tree};
 ghost use Rattle.tl_tables.specs.Migrations as rows;
 
 use crate::listed::{add, map_enum, nest, rename, scale, texts};
-use migrate_seq::{Filter, MigScope, Migration, SeqFault, Sequence, Sequences};
+use migrate_seq::{Filter, MigScope, MigStep, Migration, SeqFault, Sequence, Sequences};
 use rooms_val::{Mem, OutOfMemory, Text};
 use std::alloc::Global;
 
@@ -124,17 +127,28 @@ fn base_1(alloc: Global) -> Mem<Migration>
 fn shape_1(alloc: Global) -> Mem<Migration>
     ensures { IfOk result (λ m. migration_tree m ≡ rows.shape_1) }
 {
-    Ok(Migration {
-        id: Text::of(alloc, "rooms.shape/1")?,
-        scope: MigScope::Record,
-        filter: Filter::Type_(Text::of(alloc, "shape")?),
-        steps: vec![in alloc;
-            rename(alloc, &[], "alpha", "opacity")?,
-            scale(alloc, &[], "opacity", 10)?,
-        ]?,
-        has_down: true,
-        depends: Vec::new(alloc),
-    })
+    let filter = Filter::Type_(Text::of(alloc, "shape")?);
+    let steps = opacity_steps(alloc)?;
+    both_ways(alloc, "rooms.shape/1", filter, steps, Vec::new(alloc))
+}
+
+#[tactic(auto, unfolding(crate::specs::Migrations::shape_1))]
+fn opacity_steps(alloc: Global) -> Mem<Vec<MigStep>>
+    ensures { IfOk result (λ s. map step_tree s.items ≡ (rows.shape_1).steps) }
+{
+    Ok(vec![in alloc; alpha_renamed(alloc)?, opacity_scaled(alloc)?]?)
+}
+
+fn alpha_renamed(alloc: Global) -> Mem<MigStep>
+    ensures { IfOk result (λ s. step_tree s ≡ trees.rename [] (codes "alpha") (codes "opacity")) }
+{
+    rename(alloc, &[], "alpha", "opacity")
+}
+
+fn opacity_scaled(alloc: Global) -> Mem<MigStep>
+    ensures { IfOk result (λ s. step_tree s ≡ trees.scale [] (codes "opacity") 10) }
+{
+    scale(alloc, &[], "opacity", 10)
 }
 
 /// Outlines had no dashes, and an ellipse had another name.
@@ -142,17 +156,28 @@ fn shape_1(alloc: Global) -> Mem<Migration>
 fn shape_2(alloc: Global) -> Mem<Migration>
     ensures { IfOk result (λ m. migration_tree m ≡ rows.shape_2) }
 {
-    Ok(Migration {
-        id: Text::of(alloc, "rooms.shape/2")?,
-        scope: MigScope::Record,
-        filter: Filter::Kind(Text::of(alloc, "shape")?, Text::of(alloc, "geo")?),
-        steps: vec![in alloc;
-            add(alloc, &["props"], "dash", "draw")?,
-            map_enum(alloc, &["props"], "geo", "oval", "ellipse")?,
-        ]?,
-        has_down: true,
-        depends: Vec::new(alloc),
-    })
+    let filter = Filter::Kind(Text::of(alloc, "shape")?, Text::of(alloc, "geo")?);
+    let steps = outline_steps(alloc)?;
+    both_ways(alloc, "rooms.shape/2", filter, steps, Vec::new(alloc))
+}
+
+#[tactic(auto, unfolding(crate::specs::Migrations::shape_2))]
+fn outline_steps(alloc: Global) -> Mem<Vec<MigStep>>
+    ensures { IfOk result (λ s. map step_tree s.items ≡ (rows.shape_2).steps) }
+{
+    Ok(vec![in alloc; dash_added(alloc)?, oval_renamed(alloc)?]?)
+}
+
+fn dash_added(alloc: Global) -> Mem<MigStep>
+    ensures { IfOk result (λ s. step_tree s ≡ trees.add (codes "props" ∷ []) (codes "dash") (text (codes "draw"))) }
+{
+    add(alloc, &["props"], "dash", "draw")
+}
+
+fn oval_renamed(alloc: Global) -> Mem<MigStep>
+    ensures { IfOk result (λ s. step_tree s ≡ trees.map_enum (codes "props" ∷ []) (codes "geo") ((codes "oval", codes "ellipse") ∷ [])) }
+{
+    map_enum(alloc, &["props"], "geo", "oval", "ellipse")
 }
 
 /// The place where an arrow ends stood beside the other properties.
@@ -160,16 +185,51 @@ fn shape_2(alloc: Global) -> Mem<Migration>
 fn binding_1(alloc: Global) -> Mem<Migration>
     ensures { IfOk result (λ m. migration_tree m ≡ rows.binding_1) }
 {
+    let filter = Filter::Type_(Text::of(alloc, "binding")?);
+    let steps = anchor_steps(alloc)?;
+    let depends = texts(alloc, &["rooms.shape/2"])?;
+    both_ways(alloc, "rooms.binding/1", filter, steps, depends)
+}
+
+#[tactic(auto, unfolding(crate::specs::Migrations::binding_1))]
+fn anchor_steps(alloc: Global) -> Mem<Vec<MigStep>>
+    ensures { IfOk result (λ s. map step_tree s.items ≡ (rows.binding_1).steps) }
+{
+    Ok(vec![in alloc;
+        anchor_nested(alloc)?,
+        coordinate_renamed(alloc, "anchorX", "x")?,
+        coordinate_renamed(alloc, "anchorY", "y")?,
+    ]?)
+}
+
+fn anchor_nested(alloc: Global) -> Mem<MigStep>
+    ensures { IfOk result (λ s. step_tree s ≡ trees.nest (codes "props" ∷ []) (codes "anchorX" ∷ codes "anchorY" ∷ []) (codes "anchor")) }
+{
+    nest(alloc, &["props"], &["anchorX", "anchorY"], "anchor")
+}
+
+fn coordinate_renamed(alloc: Global, old: &str, new: &str) -> Mem<MigStep>
+    ensures { IfOk result (λ s. step_tree s ≡ trees.rename (codes "props" ∷ codes "anchor" ∷ []) old.now new.now) }
+{
+    rename(alloc, &["props", "anchor"], old, new)
+}
+
+// A migration of records that goes both ways.
+fn both_ways(
+    alloc: Global,
+    id: &str,
+    filter: Filter,
+    steps: Vec<MigStep>,
+    depends: Vec<Text>,
+) -> Mem<Migration>
+    ensures { IfOk result (λ m. migration_tree m ≡ record { id = id.now; scope = mig_scope.Record; filter = filter; steps = map step_tree steps.items; has_down = true; depends = depends.items }) }
+{
     Ok(Migration {
-        id: Text::of(alloc, "rooms.binding/1")?,
+        id: Text::of(alloc, id)?,
         scope: MigScope::Record,
-        filter: Filter::Type_(Text::of(alloc, "binding")?),
-        steps: vec![in alloc;
-            nest(alloc, &["props"], &["anchorX", "anchorY"], "anchor")?,
-            rename(alloc, &["props", "anchor"], "anchorX", "x")?,
-            rename(alloc, &["props", "anchor"], "anchorY", "y")?,
-        ]?,
+        filter,
+        steps,
         has_down: true,
-        depends: texts(alloc, &["rooms.shape/2"])?,
+        depends,
     })
 }

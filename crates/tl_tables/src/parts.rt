@@ -3,7 +3,8 @@ ghost use Rattle.std.specs.Prelude.{◌≡◌, IfOk};
 ghost use Rattle.record_valid.specs.View.{tree_of};
 ghost use Rattle.tl_tables.specs.Parts as parts;
 
-use crate::fields::Fields;
+use crate::fields::{Field, Fields};
+use crate::rules::Rule;
 use record_valid::Check;
 use rooms_val::Mem;
 use std::alloc::Global;
@@ -30,9 +31,10 @@ pub(crate) fn extent() -> Check
 pub(crate) fn point(alloc: Global, version: u32) -> Mem<Check>
     ensures { IfOk result (λ c. tree_of c ≡ parts.point version) }
 {
-    let fields = Fields::none(alloc, version)
-        .always("x", coordinate())?
-        .always("y", coordinate())?;
+    let fields = Fields::none(alloc, version).with_each(&[
+        Field::Always("x", Rule::Coordinate),
+        Field::Always("y", Rule::Coordinate),
+    ])?;
     Ok(fields.object())
 }
 

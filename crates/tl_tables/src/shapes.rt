@@ -1,10 +1,13 @@
 //! The types of shapes, each with the properties of its shapes.
-ghost use Rattle.std.specs.Prelude.{◌≡◌, IfOk};
+ghost use Rattle.std.specs.Prelude.{◌≡◌, IfOk, [], ◌∷◌, codes};
+ghost use Rattle.record_valid.specs.Tree.{nullable, id_of, list_of};
 ghost use Rattle.record_valid.specs.View.{tree_of};
+ghost use Rattle.tl_tables.specs.Parts as parts;
 ghost use Rattle.tl_tables.specs.Shapes as shapes;
 
-use crate::fields::Fields;
-use crate::parts::{color, coordinate, dash, extent, fill, long_text, point, short_text, size};
+use crate::fields::{Field, Fields};
+use crate::parts::point;
+use crate::rules::Rule;
 use record_valid::Check;
 use rooms_val::Mem;
 use std::alloc::Global;
@@ -63,13 +66,15 @@ fn geo(alloc: Global, version: u32) -> Mem<Check>
 {
     let fields = Fields::none(alloc, version)
         .always("geo", forms(alloc, version)?)?
-        .always("w", extent())?
-        .always("h", extent())?
-        .always("color", color(alloc)?)?
-        .always("fill", fill(alloc)?)?
-        .since(3, "dash", dash(alloc)?)?
-        .always("size", size(alloc)?)?
-        .always("text", long_text())?;
+        .with_each(&[
+            Field::Always("w", Rule::Extent),
+            Field::Always("h", Rule::Extent),
+            Field::Always("color", Rule::Color),
+            Field::Always("fill", Rule::Fill),
+            Field::Since(3, "dash", Rule::Dash),
+            Field::Always("size", Rule::Size),
+            Field::Always("text", Rule::LongText),
+        ])?;
     Ok(fields.object())
 }
 
@@ -78,10 +83,12 @@ fn draw(alloc: Global, version: u32) -> Mem<Check>
     ensures { IfOk result (λ c. tree_of c ≡ shapes.draw version) }
 {
     let fields = Fields::none(alloc, version)
-        .always("points", Check::list_of(alloc, point(alloc, version)?)?)?
-        .always("isClosed", Check::Bool)?
-        .always("color", color(alloc)?)?
-        .always("size", size(alloc)?)?;
+        .always("points", points(alloc, version)?)?
+        .with_each(&[
+            Field::Always("isClosed", Rule::Bool),
+            Field::Always("color", Rule::Color),
+            Field::Always("size", Rule::Size),
+        ])?;
     Ok(fields.object())
 }
 
@@ -92,10 +99,12 @@ fn arrow(alloc: Global, version: u32) -> Mem<Check>
     let fields = Fields::none(alloc, version)
         .always("start", point(alloc, version)?)?
         .always("end", point(alloc, version)?)?
-        .always("bend", coordinate())?
-        .always("color", color(alloc)?)?
-        .always("size", size(alloc)?)?
-        .always("text", long_text())?;
+        .with_each(&[
+            Field::Always("bend", Rule::Coordinate),
+            Field::Always("color", Rule::Color),
+            Field::Always("size", Rule::Size),
+            Field::Always("text", Rule::LongText),
+        ])?;
     Ok(fields.object())
 }
 
@@ -103,13 +112,14 @@ fn arrow(alloc: Global, version: u32) -> Mem<Check>
 fn text(alloc: Global, version: u32) -> Mem<Check>
     ensures { IfOk result (λ c. tree_of c ≡ shapes.text version) }
 {
-    let fields = Fields::none(alloc, version)
-        .always("text", long_text())?
-        .always("w", extent())?
-        .always("h", extent())?
-        .always("autoSize", Check::Bool)?
-        .always("color", color(alloc)?)?
-        .always("size", size(alloc)?)?;
+    let fields = Fields::none(alloc, version).with_each(&[
+        Field::Always("text", Rule::LongText),
+        Field::Always("w", Rule::Extent),
+        Field::Always("h", Rule::Extent),
+        Field::Always("autoSize", Rule::Bool),
+        Field::Always("color", Rule::Color),
+        Field::Always("size", Rule::Size),
+    ])?;
     Ok(fields.object())
 }
 
@@ -117,10 +127,11 @@ fn text(alloc: Global, version: u32) -> Mem<Check>
 fn frame(alloc: Global, version: u32) -> Mem<Check>
     ensures { IfOk result (λ c. tree_of c ≡ shapes.frame version) }
 {
-    let fields = Fields::none(alloc, version)
-        .always("w", extent())?
-        .always("h", extent())?
-        .always("name", short_text())?;
+    let fields = Fields::none(alloc, version).with_each(&[
+        Field::Always("w", Rule::Extent),
+        Field::Always("h", Rule::Extent),
+        Field::Always("name", Rule::ShortText),
+    ])?;
     Ok(fields.object())
 }
 
@@ -136,10 +147,11 @@ fn group(alloc: Global, version: u32) -> Mem<Check>
 fn note(alloc: Global, version: u32) -> Mem<Check>
     ensures { IfOk result (λ c. tree_of c ≡ shapes.note version) }
 {
-    let fields = Fields::none(alloc, version)
-        .always("text", long_text())?
-        .always("color", color(alloc)?)?
-        .always("size", size(alloc)?)?;
+    let fields = Fields::none(alloc, version).with_each(&[
+        Field::Always("text", Rule::LongText),
+        Field::Always("color", Rule::Color),
+        Field::Always("size", Rule::Size),
+    ])?;
     Ok(fields.object())
 }
 
@@ -147,10 +159,27 @@ fn note(alloc: Global, version: u32) -> Mem<Check>
 fn image(alloc: Global, version: u32) -> Mem<Check>
     ensures { IfOk result (λ c. tree_of c ≡ shapes.image version) }
 {
-    let asset = Check::id_of(alloc, &["asset"])?;
     let fields = Fields::none(alloc, version)
-        .always("w", extent())?
-        .always("h", extent())?
-        .always("assetId", Check::nullable(alloc, asset)?)?;
+        .with_each(&[
+            Field::Always("w", Rule::Extent),
+            Field::Always("h", Rule::Extent),
+        ])?
+        .always("assetId", asset_id(alloc)?)?;
     Ok(fields.object())
+}
+
+// The id of an image's source, or none.
+fn asset_id(alloc: Global) -> Mem<Check>
+    ensures { IfOk result (λ c. tree_of c ≡ nullable (id_of (codes "asset" ∷ []))) }
+{
+    let asset = Check::id_of(alloc, &["asset"])?;
+    Check::nullable(alloc, asset)
+}
+
+// A list of points.
+fn points(alloc: Global, version: u32) -> Mem<Check>
+    ensures { IfOk result (λ c. tree_of c ≡ list_of (parts.point version)) }
+{
+    let point = point(alloc, version)?;
+    Check::list_of(alloc, point)
 }
