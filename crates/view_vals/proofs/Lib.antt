@@ -1,0 +1,4 @@
+pub mod RefusalLemmas
+pub mod ViewsLemmas
+pub mod QueriesLemmas
+pub mod AskingLemmas
