@@ -11,11 +11,19 @@ use Rattle.field_ops.specs.WireRecordOps.{change_in, change_in-change_data, diff
 use Rattle.room_model.specs.declared.event.Event.{Event}
 use Rattle.room_model.specs.declared.event.Event.TheVariants as event
 use Rattle.room_model.specs.declared.event.Header.{Header}
-use Rattle.rec_format.specs.Events.{event_fields, event_val, header_fields, header_val}
+use Rattle.view_vals.specs.Queries.{query_data}
+use Rattle.view_vals.specs.Views.{view_data}
+use Rattle.view_vals.proofs.AskingLemmas.{ask_the_same}
+use Rattle.view_vals.proofs.ViewsLemmas.{one_view}
+use Rattle.rec_format.specs.Events.{event_fields, header_fields, header_val}
+use Rattle.rec_format.specs.Laws.{IsSame}
 use Rattle.rec_format.specs.Lines.{IsEvent, IsHeader, IsUnknown, RefusesLine, RefusesHeader, word_in}
+use Rattle.rec_format.specs.Recorded.{recorded_fields, recorded_val}
 use Rattle.rec_format.specs.Verbs.{word_of}
 use Rattle.rec_format.specs.declared.fault.LineFault.{LineFault}
 use Rattle.rec_format.specs.declared.fault.LineFault.TheVariants as line_fault
+use Rattle.rec_format.specs.declared.recorded.RecordedEvent.{RecordedEvent}
+use Rattle.rec_format.specs.declared.recorded.RecordedEvent.TheVariants as recorded
 use Rattle.rec_format.specs.declared.verb.Verb.{Verb}
 use Rattle.rec_format.specs.declared.verb.Verb.TheVariants as verb
 use Rattle.rec_format.proofs.EventLemmas.{verb_of, says, some_one}
@@ -33,6 +41,9 @@ second ps = first (rest ps)
 
 abbrev third : Pairs → Data
 third ps = first (rest (rest ps))
+
+abbrev fourth : Pairs → Data
+fourth ps = first (rest (rest (rest ps)))
 
 abbrev number_in : Data → ℕ
 number_in (data'.whole (pos n)) = n
@@ -61,46 +72,83 @@ diff_in d = []
 diff_in-diff_data : (cs : RecordOps) → diff_in (diff_data cs) ≡ cs
 diff_in-diff_data cs = ap changes_in (pairs_of-members_of (diff_pairs cs)) ∙ changes_in-diff_pairs cs
 
--- the event of a verb that has these fields
-abbrev event_with : Verb → Pairs → Event
-event_with verb.Client ps = event.Client (number_in (second ps))
-event_with verb.Connect ps = event.Connect (number_in (first ps)) (truth_in (third ps))
-event_with verb.Edit ps = event.Edit (number_in (first ps)) (diff_in (second ps))
-event_with verb.Presence ps = event.Presence (number_in (first ps)) (val_of (third ps))
-event_with verb.Mark ps = event.Mark (number_in (first ps)) (text_in (third ps))
-event_with verb.Undo ps = event.Undo (number_in (first ps))
-event_with verb.Redo ps = event.Redo (number_in (first ps))
-event_with verb.Bail ps = event.Bail (number_in (first ps)) (text_in (third ps))
-event_with verb.Handle ps = event.Handle (number_in (second ps))
-event_with verb.Send ps = event.Send (number_in (second ps))
-event_with verb.Deliver ps = event.Deliver (number_in (first ps))
-event_with verb.Cut ps = event.Cut (number_in (first ps))
-event_with verb.Lose ps = event.Lose (number_in (second ps))
-event_with verb.Show ps = event.Show (number_in (first ps))
-event_with verb.End ps = event.End
+-- what an event says, with the values of its view or query
+data Said : Type 0 where
+  world : Event → Said
+  watch : ℕ → Data → Said
+  query : ℕ → List ℕ → Data → Said
 
-event_with-event_fields : (e : Event) → event_with (verb_of e) (event_fields e) ≡ e
-event_with-event_fields (event.Client v) = refl
-event_with-event_fields (event.Connect c readonly) = refl
-event_with-event_fields (event.Edit c diff) = ap (event.Edit c) (diff_in-diff_data diff)
-event_with-event_fields (event.Presence c r) = ap (event.Presence c) (val_of-data_of r)
-event_with-event_fields (event.Mark c name) = refl
-event_with-event_fields (event.Undo c) = refl
-event_with-event_fields (event.Redo c) = refl
-event_with-event_fields (event.Bail c name) = refl
-event_with-event_fields (event.Handle s) = refl
-event_with-event_fields (event.Send s) = refl
-event_with-event_fields (event.Deliver c) = refl
-event_with-event_fields (event.Cut c) = refl
-event_with-event_fields (event.Lose s) = refl
-event_with-event_fields (event.Show c) = refl
-event_with-event_fields event.End = refl
+abbrev said_by : RecordedEvent → Said
+said_by (recorded.World e) = world e
+said_by (recorded.Watch c view) = watch c (view_data view)
+said_by (recorded.Query c type where') = query c type (query_data where')
 
-pub one_event : (a b : Event) → event_val a ≡ event_val b → a ≡ b
+-- what the event of a verb says that has these fields
+abbrev said_with : Verb → Pairs → Said
+said_with verb.Client ps = world (event.Client (number_in (second ps)))
+said_with verb.Connect ps = world (event.Connect (number_in (first ps)) (truth_in (third ps)))
+said_with verb.Edit ps = world (event.Edit (number_in (first ps)) (diff_in (second ps)))
+said_with verb.Presence ps = world (event.Presence (number_in (first ps)) (val_of (third ps)))
+said_with verb.Mark ps = world (event.Mark (number_in (first ps)) (text_in (third ps)))
+said_with verb.Undo ps = world (event.Undo (number_in (first ps)))
+said_with verb.Redo ps = world (event.Redo (number_in (first ps)))
+said_with verb.Bail ps = world (event.Bail (number_in (first ps)) (text_in (third ps)))
+said_with verb.Handle ps = world (event.Handle (number_in (second ps)))
+said_with verb.Send ps = world (event.Send (number_in (second ps)))
+said_with verb.Deliver ps = world (event.Deliver (number_in (first ps)))
+said_with verb.Cut ps = world (event.Cut (number_in (first ps)))
+said_with verb.Lose ps = world (event.Lose (number_in (second ps)))
+said_with verb.Watch ps = watch (number_in (first ps)) (third ps)
+said_with verb.Query ps = query (number_in (first ps)) (text_in (third ps)) (fourth ps)
+said_with verb.Show ps = world (event.Show (number_in (first ps)))
+said_with verb.End ps = world event.End
+
+said_in : (e : Event) → said_with (verb_of (recorded.World e)) (event_fields e) ≡ world e
+said_in (event.Client v) = refl
+said_in (event.Connect c readonly) = refl
+said_in (event.Edit c diff) = ap (λ d. world (event.Edit c d)) (diff_in-diff_data diff)
+said_in (event.Presence c r) = ap (λ x. world (event.Presence c x)) (val_of-data_of r)
+said_in (event.Mark c name) = refl
+said_in (event.Undo c) = refl
+said_in (event.Redo c) = refl
+said_in (event.Bail c name) = refl
+said_in (event.Handle s) = refl
+said_in (event.Send s) = refl
+said_in (event.Deliver c) = refl
+said_in (event.Cut c) = refl
+said_in (event.Lose s) = refl
+said_in (event.Show c) = refl
+said_in event.End = refl
+
+said_with-recorded_fields : (e : RecordedEvent) → said_with (verb_of e) (recorded_fields e) ≡ said_by e
+said_with-recorded_fields (recorded.World e) = said_in e
+said_with-recorded_fields (recorded.Watch c view) = refl
+said_with-recorded_fields (recorded.Query c type where') = refl
+
+-- two events that say the same are the same
+same_said : (a b : RecordedEvent) → said_by a ≡ said_by b → IsSame a b
+same_said (recorded.World a) (recorded.World b) is = let same : a ≡ b = cc in same
+same_said (recorded.World a) (recorded.Watch d view) is = cc
+same_said (recorded.World a) (recorded.Query d type where') is = cc
+same_said (recorded.Watch c view) (recorded.World b) is = cc
+same_said (recorded.Watch c view) (recorded.Watch d other) is = (
+  let clients : c ≡ d = cc in clients,
+  one_view view other (let views : view_data view ≡ view_data other = cc in views),
+)
+same_said (recorded.Watch c view) (recorded.Query d type where') is = cc
+same_said (recorded.Query c type where') (recorded.World b) is = cc
+same_said (recorded.Query c type where') (recorded.Watch d view) is = cc
+same_said (recorded.Query c type where') (recorded.Query d other query') is = (
+  let clients : c ≡ d = cc in clients,
+  let types : type ≡ other = cc in types,
+  ask_the_same where' query' (let queries : query_data where' ≡ query_data query' = cc in queries),
+)
+
+pub one_event : (a b : RecordedEvent) → recorded_val a ≡ recorded_val b → IsSame a b
 one_event a b is =
-    let fields = same_map (event_fields a) (event_fields b) is in
+    let fields = same_map (recorded_fields a) (recorded_fields b) is in
     let verbs = some_one (verb_of a) (verb_of b) (sym (says a) ∙ ap word_in is ∙ says b) in
-    sym (event_with-event_fields a) ∙ (λ i. event_with (verbs i) (fields i)) ∙ event_with-event_fields b
+    same_said a b (sym (said_with-recorded_fields a) ∙ (λ i. said_with (verbs i) (fields i)) ∙ said_with-recorded_fields b)
 
 pub one_header : (a b : Header) → header_val a ≡ header_val b → a ≡ b
 one_header a b is =
@@ -116,13 +164,13 @@ no_ok r x e is_ok is_err = absurd (let is : Ok x ≡ Err e = sym is_ok ∙ is_er
 too_long : {A : Type 0} (n m : ℕ) → n ≤ m → m < n → A
 too_long n m short long = absurd (omega (arith, short, long))
 
-no_unknown : (d : Data) (e : Event) → d ≡ event_val e → ¬ IsUnknown d
+no_unknown : (d : Data) (e : RecordedEvent) → d ≡ recorded_val e → ¬ IsUnknown d
 no_unknown d e is u =
     let it : Some u.0 ≡ Some (word_of (verb_of e)) = sym u.1 ∙ ap word_in is ∙ says e in
     u.2 (verb_of e) (let same : u.0 ≡ word_of (verb_of e) = cc in same)
 
-pub reads_event : (line : List ℕ) (r : Result Event LineFault) → IfOk r (IsEvent line) → IfErr r (RefusesLine line)
-    → (e : Event) → IsEvent line e → MatchResult r (λ x. x ≡ e) (λ f. f ≡ line_fault.OutOfMemory)
+pub reads_event : (line : List ℕ) (r : Result RecordedEvent LineFault) → IfOk r (IsEvent line) → IfErr r (RefusesLine line)
+    → (e : RecordedEvent) → IsEvent line e → MatchResult r (λ x. IsSame x e) (λ f. f ≡ line_fault.OutOfMemory)
 reads_event line (Ok x) found refused e is = one_event x e (ok_same _ _ _ found.0.1 is.0.1)
 reads_event line (Err line_fault.LineTooLong) found refused e is = too_long _ _ is.0.0 refused
 reads_event line (Err (line_fault.Val f)) found refused e is = no_ok _ _ _ is.0.1 refused.1

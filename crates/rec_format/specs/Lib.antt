@@ -1,8 +1,10 @@
 pub mod Faults
 pub mod Verbs
 pub mod Events
+pub mod Recorded
 pub mod Rows
 pub mod Lines
 pub mod Printing
 pub mod Outs
+pub mod Printed
 pub mod Laws

@@ -4,11 +4,12 @@ use Rattle.rooms_val.specs.Data as data'
 use Rattle.rooms_val.specs.Data.{Data}
 use Rattle.rooms_val.specs.Kinds.{field}
 use Rattle.rooms_val.specs.Json.{value_of}
-use Rattle.room_model.specs.declared.event.Event.{Event}
 use Rattle.room_model.specs.declared.event.Header.{Header}
-use Rattle.rec_format.specs.Events.{event_val, header_val, IsProper, IsVersion}
+use Rattle.rec_format.specs.Events.{header_val, IsVersion}
+use Rattle.rec_format.specs.Recorded.{recorded_val, IsProperRecorded}
 use Rattle.rec_format.specs.Verbs.{word_of}
 use Rattle.rec_format.specs.declared.read.TheConstants.{LONGEST_LINE}
+use Rattle.rec_format.specs.declared.recorded.RecordedEvent.{RecordedEvent}
 use Rattle.rec_format.specs.declared.verb.Verb.{Verb}
 use Rattle.rec_format.specs.declared.fault.LineFault.{LineFault}
 use Rattle.rec_format.specs.declared.fault.LineFault.TheVariants as line_fault
@@ -22,8 +23,8 @@ abbrev pub IsHeader : List ℕ → Header → Type 0
 IsHeader line h = IsOf line (header_val h) × IsVersion h.version
 
 -- the line stands for the event
-abbrev pub IsEvent : List ℕ → Event → Type 0
-IsEvent line e = IsOf line (event_val e) × IsProper e
+abbrev pub IsEvent : List ℕ → RecordedEvent → Type 0
+IsEvent line e = IsOf line (recorded_val e) × IsProperRecorded e
 
 -- the value is that of no header
 abbrev pub IsNoHeader : Data → Type 0
@@ -31,7 +32,7 @@ IsNoHeader d = (h : Header) → IsVersion h.version → ¬ (d ≡ header_val h)
 
 -- the value is that of no event
 abbrev pub IsNoEvent : Data → Type 0
-IsNoEvent d = (e : Event) → IsProper e → ¬ (d ≡ event_val e)
+IsNoEvent d = (e : RecordedEvent) → IsProperRecorded e → ¬ (d ≡ recorded_val e)
 
 abbrev pub text_in : Data → Option (List ℕ)
 text_in (data'.text s) = Some s

@@ -4,6 +4,8 @@ use Rattle.rooms_val.specs.Data.{Data, depth}
 use Rattle.rooms_val.specs.Json.{json_of, is_within, deepest}
 use Rattle.room_model.specs.declared.event.Event.{Event}
 use Rattle.room_model.specs.declared.event.Event.TheVariants as event
+use Rattle.rec_format.specs.declared.recorded.RecordedEvent.{RecordedEvent}
+use Rattle.rec_format.specs.declared.recorded.RecordedEvent.TheVariants as recorded
 
 -- a number that a value can have
 abbrev pub Fits : ℕ → Type 0
@@ -26,6 +28,12 @@ IsPrintable (event.Cut c) = Fits c
 IsPrintable (event.Lose s) = Fits s
 IsPrintable (event.Show c) = Fits c
 IsPrintable event.End = Unit {0}
+
+-- the same of every event of a recording
+abbrev pub IsPrintableRecorded : RecordedEvent → Type 0
+IsPrintableRecorded (recorded.World e) = IsPrintable e
+IsPrintableRecorded (recorded.Watch c view) = Fits c
+IsPrintableRecorded (recorded.Query c type query) = Fits c
 
 -- the value's numbers are in range, and it isn't too deep: what is printed is read again
 abbrev pub IsReadable : Data → Type 0

@@ -3,8 +3,11 @@ use Rattle.std.specs.Prelude.{◌≡◌, ℕ, List, Bool}
 use Rattle.rooms_val.specs.Data.{Pairs}
 use Rattle.rooms_val.specs.declared.val.Val.{Val}
 use Rattle.field_ops.specs.RecordOps.{RecordOps, IsSoundDiff}
+use Rattle.shape_tree.specs.declared.query.Query.{Query}
+use Rattle.shape_tree.specs.declared.view.View.{View}
 use Rattle.room_model.specs.declared.event.Event.TheVariants as event
 use Rattle.rec_format.specs.Events.{event_fields, IsVersion}
+use Rattle.rec_format.specs.Recorded.{watch_fields, query_fields}
 use Rattle.rec_format.specs.declared.fault.LineFault.{LineFault}
 use Rattle.rec_format.specs.declared.fault.LineFault.TheVariants as line_fault
 use Rattle.rec_format.specs.declared.verb.Verb.{Verb}
@@ -25,6 +28,8 @@ IsOfNoEvent verb.Send ps = (s : ℕ) → ¬ (ps ≡ event_fields (event.Send s))
 IsOfNoEvent verb.Deliver ps = (c : ℕ) → ¬ (ps ≡ event_fields (event.Deliver c))
 IsOfNoEvent verb.Cut ps = (c : ℕ) → ¬ (ps ≡ event_fields (event.Cut c))
 IsOfNoEvent verb.Lose ps = (s : ℕ) → ¬ (ps ≡ event_fields (event.Lose s))
+IsOfNoEvent verb.Watch ps = (c : ℕ) (view : View) → ¬ (ps ≡ watch_fields c view)
+IsOfNoEvent verb.Query ps = (c : ℕ) (type : List ℕ) (query : Query) → ¬ (ps ≡ query_fields c type query)
 IsOfNoEvent verb.Show ps = (c : ℕ) → ¬ (ps ≡ event_fields (event.Show c))
 IsOfNoEvent verb.End ps = ¬ (ps ≡ event_fields event.End)
 

@@ -1,15 +1,17 @@
 //! The printing of lines, each without a newline.
-ghost use Rattle.std.specs.Prelude.{◌≡◌, IfOk};
+ghost use Rattle.std.specs.Prelude.{◌≡◌, map, IfOk};
 ghost use Rattle.rooms_val.specs.Data.{text};
 ghost use Rattle.rooms_val.specs.View.{data_of};
 ghost use Rattle.rec_format.specs.Outs.{reason_text, line_fields, line_text};
 ghost use Rattle.rec_format.specs.Outs.{undo_fields, redo_fields, ended_fields, fault_fields};
 ghost use Rattle.rec_format.specs.Outs.{clock_and_doc, show_fields, end_fields, ending_fields};
 ghost use Rattle.rec_format.specs.Outs.{from_fields, to_fields};
+ghost use Rattle.rec_format.specs.Printed.{printed_fields, printed_text, ids_fields, told_fields};
 
 use crate::fields::{number, with};
+use crate::printed::PrintedLine;
 use room_model::OutLine;
-use rooms_val::{Fields, Mem, Text, Val};
+use rooms_val::{Fields, Mem, Text, Val, Vals};
 use std::alloc::Global;
 use sync_msgs::{ClientMessage, EndReason, ServerMessage};
 use wire_msgs::Message;
@@ -22,6 +24,31 @@ pub fn print_out(alloc: Global, line: &OutLine) -> Mem<Vec<u8>>
 {
     let fields = fields_of(alloc, line)?;
     Ok(Val::Map(fields).print(alloc)?)
+}
+
+/// The text of a line of the world, of a query or of a watch. It costs what is printed.
+///
+/// A number from 2^63 on is printed as 2^63 - 1.
+pub fn print_line(alloc: Global, line: &PrintedLine) -> Mem<Vec<u8>>
+    ensures { IfOk result (λ printed. printed.items ≡ printed_text line.now) }
+{
+    let fields = printed_fields(alloc, line)?;
+    Ok(Val::Map(fields).print(alloc)?)
+}
+
+// The fields of a line of the world, of a query or of a watch.
+fn printed_fields(alloc: Global, line: &PrintedLine) -> Mem<Fields>
+    ensures { IfOk result (λ fields. fields ≡ printed_fields line.now) }
+{
+    match line {
+        PrintedLine::World(line) => fields_of(alloc, line),
+        PrintedLine::Ids { client, ids } => ids_fields(alloc, *client, ids.as_slice()),
+        PrintedLine::Told {
+            client,
+            told,
+            watch,
+        } => told_fields(alloc, *client, told, *watch),
+    }
 }
 
 // The fields of a line.
@@ -132,6 +159,33 @@ fn fault_fields(alloc: Global, at: u64, name: &Text) -> Mem<Fields>
 {
     let fields = with(alloc, Fields::new(alloc), "at", number(at))?;
     with(alloc, fields, "fault", Val::Text(name.copy(alloc)?))
+}
+
+fn ids_fields(alloc: Global, client: u64, ids: &[Text]) -> Mem<Fields>
+    ensures { IfOk result (λ fields. fields ≡ ids_fields client ids.now) }
+{
+    let fields = with(alloc, Fields::new(alloc), "client", number(client))?;
+    let fields = with(alloc, fields, "ids", Val::List(ids_vals(alloc, ids)?))?;
+    with(alloc, fields, "query", Val::Bool(true))
+}
+
+// Each id as a value.
+fn ids_vals(alloc: Global, ids: &[Text]) -> Mem<Vals>
+    ensures { IfOk result (λ vals. vals ≡ map text ids.now) }
+{
+    let mut vals = Vals::new(alloc);
+    'ids: for id in ids {
+        vals.push(Val::Text(id.copy(alloc)?))?;
+    }
+    Ok(vals)
+}
+
+fn told_fields(alloc: Global, client: u64, told: &Val, watch: u32) -> Mem<Fields>
+    ensures { IfOk result (λ fields. fields ≡ told_fields client (data_of told.now) watch) }
+{
+    let fields = with(alloc, Fields::new(alloc), "client", number(client))?;
+    let fields = with(alloc, fields, "told", told.copy(alloc)?)?;
+    with(alloc, fields, "watch", Val::Int(i64::from(watch)))
 }
 
 // The name of a reason, as a value.

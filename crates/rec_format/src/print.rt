@@ -4,15 +4,21 @@ ghost use Rattle.rooms_val.specs.Json.{text_of};
 ghost use Rattle.rec_format.specs.Events.{event_val, event_fields, IsProper};
 ghost use Rattle.rec_format.specs.Events.{does, of_client, of_session, with_name};
 ghost use Rattle.rec_format.specs.Lines.{IsEvent};
-ghost use Rattle.rec_format.specs.Printing.{Fits, IsPrintable, IsReadable};
+ghost use Rattle.rec_format.specs.Printing.{Fits, IsPrintable, IsPrintableRecorded, IsReadable};
+ghost use Rattle.rec_format.specs.Recorded.{recorded_val, recorded_fields, IsProperRecorded};
+ghost use Rattle.rec_format.specs.Recorded.{watch_fields, query_fields};
+ghost use Rattle.rec_format.specs.declared.recorded.RecordedEvent.TheVariants as recorded;
 
 use crate::fields::{number, with};
 use crate::read::LONGEST_LINE;
+use crate::recorded::RecordedEvent;
 use crate::verb::Verb;
 use field_ops::diff_val;
 use room_model::Event;
 use rooms_val::{Fields, Mem, Text, Val};
+use shape_tree::{Query, View};
 use std::alloc::Global;
+use view_vals::{query_val, view_val};
 
 /// The line of an event. It costs what is printed.
 ///
@@ -24,10 +30,58 @@ pub fn print_event(alloc: Global, event: &Event) -> Mem<Vec<u8>>
     // It is read as the event, where it isn't too long and its numbers and depth are in range.
     ensures reads_back { IfOk result (λ line. IsPrintable event.now → IsProper event.now
         → IsReadable (event_val event.now) → length line.items ≤ LONGEST_LINE
-        → IsEvent line.items event.now) }
+        → IsEvent line.items (recorded.World event.now)) }
 {
     let fields = fields_of(alloc, event)?;
     Ok(Val::Map(fields).print(alloc)?)
+}
+
+/// The line of an event, or of a watch or query. It costs what is printed.
+///
+/// A number of a client or session from 2^63 on is printed as 2^63 - 1; every other event has its
+/// own line.
+pub fn print_recorded(alloc: Global, event: &RecordedEvent) -> Mem<Vec<u8>>
+    ensures text { IfOk result (λ line. IsPrintableRecorded event.now
+        → line.items ≡ text_of (recorded_val event.now)) }
+    // It is read as the event, where it isn't too long and its numbers and depth are in range.
+    ensures reads_back { IfOk result (λ line. IsPrintableRecorded event.now
+        → IsProperRecorded event.now → IsReadable (recorded_val event.now)
+        → length line.items ≤ LONGEST_LINE → IsEvent line.items event.now) }
+{
+    let fields = recorded_fields(alloc, event)?;
+    Ok(Val::Map(fields).print(alloc)?)
+}
+
+// The fields of an event, or of a watch or query.
+fn recorded_fields(alloc: Global, event: &RecordedEvent) -> Mem<Fields>
+    ensures { IfOk result (λ fields. IsPrintableRecorded event.now
+        → fields ≡ recorded_fields event.now) }
+{
+    match event {
+        RecordedEvent::World(event) => fields_of(alloc, event),
+        RecordedEvent::Watch { client, view } => watch_fields(alloc, *client, view),
+        RecordedEvent::Query {
+            client,
+            type_name,
+            where_,
+        } => query_fields(alloc, *client, type_name, where_),
+    }
+}
+
+fn watch_fields(alloc: Global, client: u64, view: &View) -> Mem<Fields>
+    ensures { IfOk result (λ fields. Fits client → fields ≡ watch_fields client view.now) }
+{
+    let fields = of_client(alloc, Verb::Watch, client)?;
+    with(alloc, fields, "view", view_val(alloc, view)?)
+}
+
+fn query_fields(alloc: Global, client: u64, type_name: &Text, where_: &Query) -> Mem<Fields>
+    ensures { IfOk result (λ fields.
+        Fits client → fields ≡ query_fields client type_name.now where_.now) }
+{
+    let fields = of_client(alloc, Verb::Query, client)?;
+    let fields = with(alloc, fields, "type", Val::Text(type_name.copy(alloc)?))?;
+    with(alloc, fields, "where", query_val(alloc, where_)?)
 }
 
 // The fields of an event.

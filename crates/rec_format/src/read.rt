@@ -2,14 +2,16 @@
 ghost use Rattle.std.specs.Prelude.{◌≡◌, IfOk, IfErr, codes, option_map, option_and_then};
 ghost use Rattle.rooms_val.specs.Maps.{value_at};
 ghost use Rattle.rooms_val.specs.View.{data_of};
-ghost use Rattle.rec_format.specs.Events.{event_val, header_val, IsProper, IsVersion};
+ghost use Rattle.rec_format.specs.Events.{header_val, IsVersion};
 ghost use Rattle.rec_format.specs.Lines.{IsOf, IsHeader, IsEvent, IsNoHeader, text_in};
 ghost use Rattle.rec_format.specs.Lines.{RefusesBytes, RefusesHeader, RefusesLine, RefusesVal};
+ghost use Rattle.rec_format.specs.Recorded.{recorded_val, IsProperRecorded};
 
 use crate::fault::{IllFormed, LineFault};
+use crate::recorded::RecordedEvent;
 use crate::rows::{event_in, header_of};
 use crate::verb::Verb;
-use room_model::{Event, Header};
+use room_model::Header;
 use rooms_val::{Fields, Val};
 use std::alloc::Global;
 
@@ -34,14 +36,14 @@ pub fn read_header(alloc: Global, line: &[u8]) -> Result<Header, LineFault>
     }
 }
 
-/// The event that a line stands for. It costs the line.
+/// The event, watch or query that a line stands for. It costs the line.
 ///
 /// # Errors
 ///
 /// The first of these that applies: `LineTooLong` over 1,048,576 bytes; `Val` where the line is no
 /// value; `UnknownEvent` where the value has under `do` a text that is no event's word; `Field`
 /// where the value is that of no event. Never `NoHeader`. `OutOfMemory` may come in place of any.
-pub fn read_line(alloc: Global, line: &[u8]) -> Result<Event, LineFault>
+pub fn read_line(alloc: Global, line: &[u8]) -> Result<RecordedEvent, LineFault>
     ensures found { IfOk result (IsEvent line.now) }
     ensures refused { IfErr result (RefusesLine line.now) }
 {
@@ -72,8 +74,9 @@ fn header_in(val: &Val) -> Result<Header, IllFormed>
 }
 
 // The event of a value.
-fn event_of(alloc: Global, val: &Val) -> Result<Event, LineFault>
-    ensures found { IfOk result (λ e. (data_of val.now ≡ event_val e) × IsProper e) }
+fn event_of(alloc: Global, val: &Val) -> Result<RecordedEvent, LineFault>
+    ensures found { IfOk result (λ e.
+        (data_of val.now ≡ recorded_val e) × IsProperRecorded e) }
     ensures refused { IfErr result (RefusesVal (data_of val.now)) }
 {
     let Val::Map(fields) = val else {

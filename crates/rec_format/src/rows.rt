@@ -6,16 +6,19 @@ ghost use Rattle.field_ops.specs.WireRecordOps.{diff_data};
 ghost use Rattle.rec_format.specs.Events.{event_fields, header_fields, IsProper, IsVersion};
 ghost use Rattle.rec_format.specs.Events.{of_client, of_session, with_name};
 ghost use Rattle.room_model.specs.declared.event.Header.{Header};
+ghost use Rattle.rec_format.specs.Recorded.{recorded_fields, IsProperRecorded};
 ghost use Rattle.rec_format.specs.Rows.{IsOfNoEvent, RefusesRow};
 ghost use Rattle.rec_format.specs.declared.verb.Verb.TheVariants as verb';
 
 use crate::entries::{check_verb, number_in, text_in, truth_in, val_in, version_in};
 use crate::fault::{IllFormed, LineFault};
+use crate::recorded::RecordedEvent;
 use crate::verb::Verb;
 use field_ops::{Diff, read_diff};
 use room_model::{Event, Header};
 use rooms_val::{OpFault, Text, Val};
 use std::alloc::Global;
+use view_vals::{read_query, read_view};
 
 /// The header that has these fields. Refused exactly where it has none.
 pub(crate) fn header_of(entries: &[(Text, Val)]) -> Result<Header, IllFormed>
@@ -39,48 +42,59 @@ pub(crate) fn event_in(
     alloc: Global,
     verb: Verb,
     entries: &[(Text, Val)],
-) -> Result<Event, LineFault>
-    ensures found { IfOk result (λ e. (pairs_view entries.now ≡ event_fields e) × IsProper e) }
+) -> Result<RecordedEvent, LineFault>
+    ensures found { IfOk result (λ e.
+        (pairs_view entries.now ≡ recorded_fields e) × IsProperRecorded e) }
     ensures refused { IfErr result (RefusesRow (IsOfNoEvent verb (pairs_view entries.now))) }
 {
     match verb {
-        Verb::Client => Ok(client_event(entries)?),
-        Verb::Connect => Ok(connect_event(entries)?),
-        Verb::Edit => edit_event(alloc, entries),
-        Verb::Presence => presence_event(alloc, entries),
+        Verb::Client => Ok(RecordedEvent::World(client_event(entries)?)),
+        Verb::Connect => Ok(RecordedEvent::World(connect_event(entries)?)),
+        Verb::Edit => Ok(RecordedEvent::World(edit_event(alloc, entries)?)),
+        Verb::Presence => Ok(RecordedEvent::World(presence_event(alloc, entries)?)),
         Verb::Mark => {
             let (client, name) = client_and_name(alloc, entries, Verb::Mark)?;
-            Ok(Event::Mark { client, name })
+            Ok(RecordedEvent::World(Event::Mark { client, name }))
         }
-        Verb::Undo => Ok(Event::Undo {
-            client: client_of(entries, Verb::Undo)?,
-        }),
-        Verb::Redo => Ok(Event::Redo {
-            client: client_of(entries, Verb::Redo)?,
-        }),
+        Verb::Undo => {
+            let client = client_of(entries, Verb::Undo)?;
+            Ok(RecordedEvent::World(Event::Undo { client }))
+        }
+        Verb::Redo => {
+            let client = client_of(entries, Verb::Redo)?;
+            Ok(RecordedEvent::World(Event::Redo { client }))
+        }
         Verb::Bail => {
             let (client, name) = client_and_name(alloc, entries, Verb::Bail)?;
-            Ok(Event::Bail { client, name })
+            Ok(RecordedEvent::World(Event::Bail { client, name }))
         }
-        Verb::Handle => Ok(Event::Handle {
-            session: session_of(entries, Verb::Handle)?,
-        }),
-        Verb::Send => Ok(Event::Send {
-            session: session_of(entries, Verb::Send)?,
-        }),
-        Verb::Deliver => Ok(Event::Deliver {
-            client: client_of(entries, Verb::Deliver)?,
-        }),
-        Verb::Cut => Ok(Event::Cut {
-            client: client_of(entries, Verb::Cut)?,
-        }),
-        Verb::Lose => Ok(Event::Lose {
-            session: session_of(entries, Verb::Lose)?,
-        }),
-        Verb::Show => Ok(Event::Show {
-            client: client_of(entries, Verb::Show)?,
-        }),
-        Verb::End => Ok(end_event(entries)?),
+        Verb::Handle => {
+            let session = session_of(entries, Verb::Handle)?;
+            Ok(RecordedEvent::World(Event::Handle { session }))
+        }
+        Verb::Send => {
+            let session = session_of(entries, Verb::Send)?;
+            Ok(RecordedEvent::World(Event::Send { session }))
+        }
+        Verb::Deliver => {
+            let client = client_of(entries, Verb::Deliver)?;
+            Ok(RecordedEvent::World(Event::Deliver { client }))
+        }
+        Verb::Cut => {
+            let client = client_of(entries, Verb::Cut)?;
+            Ok(RecordedEvent::World(Event::Cut { client }))
+        }
+        Verb::Lose => {
+            let session = session_of(entries, Verb::Lose)?;
+            Ok(RecordedEvent::World(Event::Lose { session }))
+        }
+        Verb::Watch => watch_event(alloc, entries),
+        Verb::Query => query_event(alloc, entries),
+        Verb::Show => {
+            let client = client_of(entries, Verb::Show)?;
+            Ok(RecordedEvent::World(Event::Show { client }))
+        }
+        Verb::End => Ok(RecordedEvent::World(end_event(entries)?)),
     }
 }
 
@@ -196,6 +210,39 @@ fn presence_event(alloc: Global, entries: &[(Text, Val)]) -> Result<Event, LineF
     let client = number_in(client, "client")?;
     let record_ = val_in(record, "record")?.copy(alloc)?;
     Ok(Event::Presence { client, record_ })
+}
+
+fn watch_event(alloc: Global, entries: &[(Text, Val)]) -> Result<RecordedEvent, LineFault>
+    ensures found { IfOk result (λ e.
+        (pairs_view entries.now ≡ recorded_fields e) × IsProperRecorded e) }
+    ensures refused { IfErr result (RefusesRow (IsOfNoEvent verb'.Watch (pairs_view entries.now))) }
+{
+    let [client, word, view] = entries else {
+        return Err(LineFault::Field);
+    };
+    check_verb(word, Verb::Watch)?;
+    let client = number_in(client, "client")?;
+    let view = read_view(alloc, val_in(view, "view")?)?;
+    Ok(RecordedEvent::Watch { client, view })
+}
+
+fn query_event(alloc: Global, entries: &[(Text, Val)]) -> Result<RecordedEvent, LineFault>
+    ensures found { IfOk result (λ e.
+        (pairs_view entries.now ≡ recorded_fields e) × IsProperRecorded e) }
+    ensures refused { IfErr result (RefusesRow (IsOfNoEvent verb'.Query (pairs_view entries.now))) }
+{
+    let [client, word, type_name, where_] = entries else {
+        return Err(LineFault::Field);
+    };
+    check_verb(word, Verb::Query)?;
+    let client = number_in(client, "client")?;
+    let type_name = text_in(type_name, "type")?.copy(alloc)?;
+    let where_ = read_query(alloc, val_in(where_, "where")?)?;
+    Ok(RecordedEvent::Query {
+        client,
+        type_name,
+        where_,
+    })
 }
 
 fn end_event(entries: &[(Text, Val)]) -> Result<Event, IllFormed>

@@ -19,6 +19,8 @@ pub enum Verb {
     Deliver,
     Cut,
     Lose,
+    Watch,
+    Query,
     Show,
     End,
 }
@@ -42,6 +44,8 @@ impl Verb {
             Verb::Deliver => "deliver",
             Verb::Cut => "cut",
             Verb::Lose => "lose",
+            Verb::Watch => "watch",
+            Verb::Query => "query",
             Verb::Show => "show",
             Verb::End => "end",
         }
@@ -66,6 +70,8 @@ impl Verb {
             "deliver" => Some(Verb::Deliver),
             "cut" => Some(Verb::Cut),
             "lose" => Some(Verb::Lose),
+            "watch" => Some(Verb::Watch),
+            "query" => Some(Verb::Query),
             "show" => Some(Verb::Show),
             "end" => Some(Verb::End),
             _ => None,
