@@ -1,5 +1,5 @@
 -- What a peer stands for, said by the schema that it has.
-use Rattle.std.proofs.Common.{◌≡◌, ℕ, List, [], ◌∷◌, Bool, true, false, ◌&&◌, cond, Option, None, Some, option_map, Result, Ok, Err, refl, sym, ap, subst, ◌∙◌}
+use Rattle.std.proofs.Common.{◌≡◌, ℕ, List, [], ◌∷◌, Bool, true, false, ◌&&◌, cond, map, Option, None, Some, option_map, Result, Ok, Err, refl, sym, ap, subst, ◌∙◌}
 use Rattle.std.specs.Prelude.{unwrap_or, nat_lt}
 use Rattle.std.specs.Option.{option_map_or}
 use Rattle.std.specs.Result.{IsErr, IsErrAnd}
@@ -7,6 +7,7 @@ use Rattle.rooms_val.specs.Answers.{Gives}
 use Rattle.rooms_val.specs.Data.{Data, Pairs}
 use Rattle.rooms_val.specs.Maps.{AreRising}
 use Rattle.field_ops.specs.RecordOps.{RecordOps}
+use Rattle.record_store.specs.Seen.{Seen}
 use Rattle.doc_model.specs.Documents.{replay}
 use Rattle.doc_model.specs.Inverses.{inverse_diff}
 use Rattle.doc_model.specs.Marks.{Marks}
@@ -23,11 +24,12 @@ use Rattle.room_model.specs.Schemas.{Schemas, ClientSchema, records_with}
 use Rattle.room_model.specs.Replicas as model
 use Rattle.room_model.specs.Replicas.{Client, Work, with_work, is_open, first_unsent, pending_diffs, push_one, push_none, schema_of, after_end}
 use Rattle.room_model.specs.declared.limits.TheConstants.{MOST_PUSHES}
-use Rattle.client_replica.specs.Standing.{admits_of, document_of, presence_of}
+use Rattle.client_replica.specs.Standing.{admits_of, document_of, presence_of, IsReplica}
+use Rattle.client_replica.specs.Works.{work_of}
 use Rattle.side_effects.specs.Completed.{completed}
 use Rattle.side_effects.specs.declared.fault.EditFault.{EditFault}
 use Rattle.side_effects.specs.declared.fault.EditFault.TheVariants as edit
-use Rattle.sync_client.specs.Calls.{Held, pushed, after_message}
+use Rattle.sync_client.specs.Calls.{Held, pushed, after_message, replica_of}
 use Rattle.sync_client.specs.Presences.{presence_fault, with_presence}
 use Rattle.sync_client.specs.Standing as client
 use Rattle.sync_client.specs.declared.client.SyncClient.{SyncClient}
@@ -86,7 +88,7 @@ module _ (schemas : Schemas EditFault) (held : Held) (peer : Peer) (stands : Sta
       ∙ ap (λ m. (client_at held.client.version).complete m wanted) shown_is
       ∙ decides.completes (records_of peer.client.replica.store) wanted rising
 
-  pub completed_at : (wanted : RecordOps) → AreRising wanted → (schema : Schema) (store : Pairs × List Pairs)
+  pub completed_at : (wanted : RecordOps) → AreRising wanted → (schema : Schema) (store : Seen)
       → schema ≡ peer.client.replica.schema → store ≡ peer.client.replica.store → completion schemas held wanted ≡ completed (schema_tree schema) (records_of store) wanted
   completed_at wanted rising schema store schema_same store_same =
       completion_is wanted rising ∙ sym (λ i. completed (schema_tree (schema_same i)) (records_of (store_same i)) wanted)
@@ -112,7 +114,7 @@ module _ (schemas : Schemas EditFault) (held : Held) (peer : Peer) (stands : Sta
   back_is diff = sym (λ i. inverse_diff (admits_are i) (shown_is i) diff)
 
 -- a client by itself knows no marks
-pub marks_free : (m : Marks) (held : Held) (c : SyncClient (Pairs × List Pairs)) → client.Stands records_of held c → client.Stands records_of (with_marks m held) c
+pub marks_free : (m : Marks) (held : Held) (c : SyncClient Seen) → client.Stands records_of held c → client.Stands records_of (with_marks m held) c
 marks_free m held c is = record {
   replica = is.replica;
   connection = is.connection;
@@ -204,3 +206,27 @@ pub refused : (result : Result (Unit {0}) EditFault) (answer : Result (Unit {0})
     → (¬ (fault ≡ edit.OutOfMemory) → answer ≡ Err fault) → Gives edit.OutOfMemory (λ done. done) result answer
 refused (Ok done) answer fault is given = absurd (let no : false ≡ true = is.0 in cc)
 refused (Err e) answer fault is given = λ other. given (λ same. other (is.1 ∙ same)) ∙ ap Err (sym is.1)
+
+-- a peer still stands for what it stood for where its store has the same records
+pub still_stands : (schemas : Schemas EditFault) (held : Held) (peer : Peer) (store : Seen) → Stands schemas held peer → records_of store ≡ records_of peer.client.replica.store
+    → Stands schemas held (record peer { client = record peer.client { replica = record peer.client.replica { store = store } } })
+still_stands schemas held peer store stands same =
+    let is = stands.client in
+    let r = peer.client.replica in
+    record {
+      tables = stands.tables;
+      known = stands.known;
+      version = stands.version;
+      client = record {
+        replica = subst (λ m. IsReplica (schema_tree r.schema) m (map work_of r.works.items) r.stash r.others (replica_of held)) (sym same) is.replica;
+        connection = is.connection;
+        reached = is.reached;
+        presence = is.presence;
+        refused = is.refused;
+        pushes = is.pushes;
+        pending = is.pending;
+        sent = is.sent;
+        closed = is.closed;
+      };
+      marks = stands.marks;
+    }

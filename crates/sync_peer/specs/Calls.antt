@@ -11,6 +11,7 @@ use Rattle.room_model.specs.Replicas.{Client, edit, with_work, schema_of, pendin
 use Rattle.sync_client.specs.Calls.{Held}
 use Rattle.sync_client.specs.declared.fault.PresenceFault.{PresenceFault}
 use Rattle.side_effects.specs.declared.fault.EditFault.{EditFault}
+use Rattle.record_store.specs.Seen as store
 use Rattle.peer_schemas.specs.Clients.{edit_fault_of}
 use Rattle.undo_marks.specs.declared.fault.BailFault.{BailFault}
 use Rattle.undo_marks.specs.declared.fault.BailFault.TheVariants.{NoMark}
@@ -47,9 +48,9 @@ abbrev pub as_edit : Result (Unit {0}) PresenceFault → Result (Unit {0}) EditF
 as_edit (Ok done) = Ok done
 as_edit (Err fault) = Err (edit_fault_of fault)
 
--- the records of a plain store
-abbrev pub records_of : Pairs × List Pairs → Pairs
-records_of store = store.0
+-- the records of a store
+abbrev pub records_of : store.Seen → Pairs
+records_of = store.records
 
 -- a client with its base and other marks
 abbrev pub with_marks : Marks → Held → Held

@@ -1,3 +1,4 @@
 pub mod Calls
 pub mod Standing
 pub mod Lending
+pub mod Viewing

@@ -25,10 +25,21 @@ ghost use Rattle.client_replica.specs.Standing.{admits_of};
 ghost use Rattle.sync_client.specs.Standing as client_of;
 ghost use Rattle.undo_marks.specs.declared.fault.BailFault.TheVariants as bail_fault;
 ghost use Rattle.sync_peer.specs.Calls.{records_of, shown, others_shown, completion, refusal, done_by, done_unless, as_edit, with_marks, with_diff, undone, redone, bailed, bail_done};
+ghost use Rattle.shape_tree.specs.Queries.{ids_meeting};
+ghost use Rattle.signal_core.specs.Due.{AreFreshIn};
+ghost use Rattle.signal_core.specs.Watches.{IsLeastFree, IsFull};
+ghost use Rattle.signal_core.specs.declared.watch.WatchFault.TheVariants as watch_fault;
+ghost use Rattle.record_store.specs.Seen.{begun};
+ghost use Rattle.live_views.specs.Telling.{by_number};
+ghost use Rattle.live_views.specs.Watches.{Watches, Stand, IsWatching, news, all_told};
+ghost use Rattle.sync_peer.specs.Viewing.{WatchAlike};
 
-use doc_store::{DocStore, MapDoc};
+use doc_store::DocStore;
 use field_ops::Diff;
+use live_views::{WatchFault, WatchId};
+use record_store::RecordStore;
 use rooms_val::{Fields, Mem, Steps, Text, Val};
+use shape_tree::{Query, View};
 use side_effects::{EditFault, complete};
 use std::alloc::Global;
 use std::sync::ledger::Ledger;
@@ -37,12 +48,12 @@ use sync_msgs::{ClientMessage, EndReason, ServerMessage};
 use tl_tables::{TableFault, schema_at};
 use undo_marks::{BailFault, Marks};
 
-/// A client over a plain store, with the schema of a version of the tables. Contracts say for which of `room_model`'s
-/// clients, with which base, it stands.
+/// A client over a store with live views, with the schema of a version of the tables. Contracts say for which of
+/// `room_model`'s clients, with which base, it stands, and see its store, which has what it watches.
 #[derive(Drop)]
 pub struct Peer {
     // The client. Its schema is one of the tables', and its edits were completed.
-    client: SyncClient<MapDoc>,
+    client: SyncClient<RecordStore>,
     // What it can take back, and do again.
     marks: Marks,
 }
@@ -50,6 +61,7 @@ pub struct Peer {
 impl Peer {
     ghost use Rattle.sync_peer.specs.Standing.{Stands, Edits};
     ghost use Rattle.sync_peer.specs.Lending.{LendsStore};
+    ghost use Rattle.sync_peer.specs.Viewing.{store_of, watched, IsClosed};
 
     /// A peer of a version that was never connected and has no record.
     ///
@@ -59,10 +71,12 @@ impl Peer {
         ensures unknown { IsErrOf result table_fault.NoSuchVersion ↔ (¬ (IsVersion version)) }
         ensures stands { IfOk result (λ peer. (schemas : Schemas EditFault) → AreOfTables schemas
             → Stands schemas (record { base = []; client = new_client version }) peer) }
+        ensures unwatched { IfOk result (λ peer. watched peer ≡ []) }
+        ensures closed { IfOk result IsClosed }
     {
         let schema = schema_at(alloc, version)?;
         Ok(Peer {
-            client: SyncClient::new(alloc, schema, MapDoc::new(alloc)),
+            client: SyncClient::new(alloc, schema, RecordStore::new(alloc)?),
             marks: Marks::new(alloc),
         })
     }
@@ -87,6 +101,7 @@ impl Peer {
             → Edits schemas held (completion schemas held wanted.now) self.new) }
         ensures err { OnErr result ((schemas : Schemas EditFault) (held : Held)
             → Stands schemas held self.old → Stands schemas held self.new) }
+        ensures views { WatchAlike (store_of self.old) (store_of self.new) }
     {
         tell_rising(wanted);
         let diff = complete(alloc, self.client.schema(), self.client.store(), wanted)?;
@@ -103,6 +118,7 @@ impl Peer {
             → Stands schemas (with_marks (after_mark name held.client.marks) held) self.new) }
         ensures err { OnErr result ((schemas : Schemas EditFault) (held : Held)
             → Stands schemas held self.old → Stands schemas held self.new) }
+        ensures store { store_of self.new ≡ store_of self.old }
     {
         self.marks.mark(name)
     }
@@ -117,6 +133,7 @@ impl Peer {
             → Stands schemas held self.old → Stands schemas (undone schemas held) self.new) }
         ensures err { OnErr result ((schemas : Schemas EditFault) (held : Held)
             → Stands schemas held self.old → Stands schemas held self.new) }
+        ensures views { WatchAlike (store_of self.old) (store_of self.new) }
     {
         let Some(diff) = self.marks.undo(alloc)? else {
             return Ok(false);
@@ -136,6 +153,7 @@ impl Peer {
             → Stands schemas held self.old → Stands schemas (redone schemas held) self.new) }
         ensures err { OnErr result ((schemas : Schemas EditFault) (held : Held)
             → Stands schemas held self.old → Stands schemas held self.new) }
+        ensures views { WatchAlike (store_of self.old) (store_of self.new) }
     {
         let Some(diff) = self.marks.redo(alloc)? else {
             return Ok(false);
@@ -164,6 +182,7 @@ impl Peer {
             → Stands schemas (bailed schemas name.now held) self.new) }
         ensures err { OnErr result ((schemas : Schemas EditFault) (held : Held)
             → Stands schemas held self.old → Stands schemas held self.new) }
+        ensures views { WatchAlike (store_of self.old) (store_of self.new) }
     {
         let diff = self.marks.bail(alloc, name)?;
         let _ = make(alloc, &mut self.client, diff, steps)?;
@@ -187,6 +206,7 @@ impl Peer {
             }) self.new) }
         ensures err { OnErr result ((schemas : Schemas EditFault) (held : Held)
             → Stands schemas held self.old → Stands schemas held self.new) }
+        ensures store { store_of self.new ≡ store_of self.old }
     {
         self.client.presence(alloc, record_)
     }
@@ -204,6 +224,7 @@ impl Peer {
             → Stands schemas held self.old
             → Stands schemas (record held { client = asking request held.client }) self.new) }
         ensures err { OnErr result (self.new ≡ self.old) }
+        ensures store { store_of self.new ≡ store_of self.old }
     {
         self.client.connect(alloc, request)
     }
@@ -219,6 +240,7 @@ impl Peer {
             → Stands schemas held self.old
             → Stands schemas (record held { client = (pushed held.client).client }) self.new) }
         ensures err { OnErr result (self.new ≡ self.old) }
+        ensures store { store_of self.new ≡ store_of self.old }
     {
         self.client.next_push(alloc)
     }
@@ -249,6 +271,7 @@ impl Peer {
         ensures ticks { (schemas : Schemas EditFault) (held : Held) → Stands schemas held self.old
             → steps.new ≤ steps.old + (2 * operations (pending_diffs held.client) + message_steps
             schemas.is_document held.base message.now) }
+        ensures views { WatchAlike (store_of self.old) (store_of self.new) }
     {
         self.client.take(alloc, message, steps)
     }
@@ -261,6 +284,7 @@ impl Peer {
               base = records_with schemas.is_document held.base;
               client = after_cut held.client;
             }) self.new }
+        ensures store { store_of self.new ≡ store_of self.old }
     {
         self.client.lost(alloc);
     }
@@ -273,6 +297,7 @@ impl Peer {
               base = records_with schemas.is_document held.base;
               client = after_end reason held.client;
             }) self.new }
+        ensures store { store_of self.new ≡ store_of self.old }
     {
         self.client.ended(alloc, reason);
     }
@@ -315,8 +340,65 @@ impl Peer {
         Ok(Val::Map(self.client.others().copy(alloc)?))
     }
 
+    /// The ids of the records of a type that it shows and that meet a query, by id. It costs a walk over the ids, and a
+    /// look-up and the query for each of the type.
+    pub fn query(&self, alloc: Global, type_name: &str, query: &Query) -> Mem<Vec<Text>>
+        ensures { IfOk result (λ ids. (schemas : Schemas EditFault) (held : Held)
+            → Stands schemas held self.now
+            → ids.items ≡ ids_meeting (shown schemas held) type_name.now query.now) }
+    {
+        store_query::ids(alloc, query, self.client.store(), type_name, None)
+    }
+
+    /// Watches a view by the least number that isn't watched. It is told at the next [`Peer::told`], whatever it comes to.
+    ///
+    /// # Errors
+    /// `Full` exactly where 64 views are watched, or `OutOfMemory`; then the peer is as before.
+    pub fn watch(&mut self, alloc: Global, view: &View) -> Result<WatchId, WatchFault>
+        ensures number { IfOk result (λ id. IsLeastFree (watched self.old) id.number) }
+        ensures ok { IfOk result (λ id. (old new : Watches) → Stand (watched self.old) old
+            → IsWatching old new id.number view.now → Stand (watched self.new) new) }
+        ensures full { (result ≡ Err watch_fault.Full) ↔ IsFull (watched self.old) }
+        ensures err { OnErr result (watched self.new ≡ watched self.old) }
+        ensures stands { (schemas : Schemas EditFault) (held : Held) → Stands schemas held self.old
+            → Stands schemas held self.new }
+        ensures begun { begun (store_of self.new) ≡ begun (store_of self.old) }
+    {
+        live_views::watch(alloc, self.client.store_mut(), view)
+    }
+
+    /// The watched views that tell something else of what the peer shows than was last told of them, a new watch always,
+    /// each with what it tells, by rising number. From then on this counts as told. While a transaction of the store is open
+    /// nothing is told. It costs a look-up for each watch on which nothing hangs that changed, and a copy of what is told.
+    /// Where memory is refused nothing counts as told.
+    pub fn told<L: Ledger>(
+        &mut self,
+        alloc: Global,
+        steps: &mut Steps<L>,
+    ) -> Mem<Vec<(WatchId, Val)>>
+        ensures told { IfOk result (λ told. (schemas : Schemas EditFault) (held : Held)
+            (ws : Watches) → Stands schemas held self.old → IsClosed self.old
+            → Stand (watched self.old) ws
+            → by_number told.items ≡ news (shown schemas held) ws) }
+        ensures ok { OnOk result ((schemas : Schemas EditFault) (held : Held) (ws : Watches)
+            → Stands schemas held self.old → IsClosed self.old → Stand (watched self.old) ws
+            → Stand (watched self.new) (all_told (shown schemas held) ws)) }
+        ensures err { OnErr result (watched self.new ≡ watched self.old) }
+        ensures stands { (schemas : Schemas EditFault) (held : Held) → Stands schemas held self.old
+            → Stands schemas held self.new }
+        ensures begun { begun (store_of self.new) ≡ begun (store_of self.old) }
+        ensures free { AreFreshIn (watched self.old) (store_of self.old).txn.graph.values
+            → steps.new ≡ steps.old }
+    {
+        let store = self.client.store_mut();
+        if store.depth() > 0 {
+            return Ok(Vec::new(alloc));
+        }
+        live_views::told(alloc, store, steps)
+    }
+
     /// The store. Afterwards its records are to be as before, and no transaction is to be open.
-    pub fn store_mut(&mut self) -> &mut MapDoc
+    pub fn store_mut(&mut self) -> &mut RecordStore
         ensures* writes_back { sem 𝓛 (LendsStore self.entry result) }
         ensures value { result.now ≡ self.old.client.replica.store }
     {
@@ -325,9 +407,9 @@ impl Peer {
 }
 
 // Adds a copy of the record of an id, if there is one.
-fn copy_record(alloc: Global, store: &MapDoc, id: Text, fields: &mut Fields) -> Mem<()>
-    ensures sound { AreRising store.now.0 }
-    ensures copied { OnOk result (fields.new ≡ added fields.old id (value_at store.now.0 id)) }
+fn copy_record(alloc: Global, store: &RecordStore, id: Text, fields: &mut Fields) -> Mem<()>
+    ensures sound { AreRising (records_of store.now) }
+    ensures copied { OnOk result (fields.new ≡ added fields.old id (value_at (records_of store.now) id)) }
 {
     if let Some(record) = store.get(id.as_str()) {
         let record = record.copy(alloc)?;
@@ -339,7 +421,7 @@ fn copy_record(alloc: Global, store: &MapDoc, id: Text, fields: &mut Fields) -> 
 // Does a diff that marks gave, unless it is empty, and returns the inverse of what acted.
 fn make<L: Ledger>(
     alloc: Global,
-    client: &mut SyncClient<MapDoc>,
+    client: &mut SyncClient<RecordStore>,
     diff: Diff,
     steps: &mut Steps<L>,
 ) -> Mem<Diff>
@@ -350,6 +432,7 @@ fn make<L: Ledger>(
     ensures err { OnErr result ((held : Held) → client_of.Stands records_of held client.old
         → client_of.Stands records_of held client.new) }
     ensures schema { client.new.replica.schema ≡ client.old.replica.schema }
+    ensures views { WatchAlike client.old.replica.store client.new.replica.store }
 {
     if diff.is_empty() {
         return Ok(diff);

@@ -15,4 +15,5 @@ returns c = record {
       stands_on schemas held old stands (record { base = records_with schemas.is_document held.base; client = left }) (record { client = c.ended.new.self; marks = old.marks }) (end_version c.args.reason held.client) c.ended.ensures.schema
       (subst (λ test. client.Stands records_of (record { base = records_with test held.base; client = left }) c.ended.new.self)
       (sym (document_is schemas held old stands)) (c.ended.ensures.stands held stands.client)) (subst (λ m. marks.Stands m old.marks) (sym (end_marks c.args.reason held.client)) stands.marks);
+  store = c.ended.ensures.store;
 }
