@@ -18,3 +18,4 @@ pub mod StepLemmas
 pub mod BackLemmas
 pub mod CaughtUpLemmas
 pub mod EntryLemmas
+pub mod ViewingLemmas

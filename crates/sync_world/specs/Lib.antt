@@ -3,6 +3,7 @@ pub mod Sending
 pub mod Pushing
 pub mod Holding
 pub mod Keeping
+pub mod Viewing
 pub mod Standing
 pub mod Moving
 pub mod Answers

@@ -1,5 +1,5 @@
 //! What clients do by themselves: they join, edit, set their presence, and lose their connection.
-ghost use Rattle.std.specs.Prelude.{◌≡◌, ◌≢◌, [], IfOk, Err};
+ghost use Rattle.std.specs.Prelude.{◌≡◌, ◌≢◌, [], IfOk, OnOk, Err};
 ghost use Rattle.rooms_val.specs.View.{data_of};
 ghost use Rattle.room_model.specs.Schemas.{Schemas};
 ghost use Rattle.room_model.specs.Replicas.{new_client};
@@ -11,6 +11,8 @@ ghost use Rattle.peer_schemas.specs.Clients.{AreOfTables};
 ghost use Rattle.sync_peer.specs.Standing as peer_of;
 ghost use Rattle.sync_world.specs.Standing.{Keeps};
 ghost use Rattle.sync_world.specs.Answers.{Answers};
+ghost use Rattle.sync_world.specs.Viewing.{stores_in, ChangesOne, MayJoin, IsUnwatched};
+ghost use Rattle.sync_peer.specs.Viewing.{store_of};
 
 use crate::live::{Answer, Live, WorldClient};
 use field_ops::Diff;
@@ -28,9 +30,10 @@ impl Live {
     // A client of a version joins, with the next number.
     pub(crate) fn join(&mut self, alloc: Global, version: u32) -> Mem<Answer>
         requires { IsVersion version }
-        ensures { IfOk result (λ answer. (schemas : Schemas EditFault) (world : model.World)
+        ensures step { IfOk result (λ answer. (schemas : Schemas EditFault) (world : model.World)
             → Keeps schemas world self.old
             → Answers schemas world (on_join version world) answer self.new) }
+        ensures stores { OnOk result (MayJoin (stores_in self.old) (stores_in self.new)) }
     {
         if self.clients.len() as u64 >= MOST_CLIENTS {
             return Ok(Err(StepFault::Limit));
@@ -52,9 +55,10 @@ impl Live {
         wanted: &Diff,
         steps: &mut Steps<L>,
     ) -> Mem<Answer>
-        ensures { IfOk result (λ answer. (schemas : Schemas EditFault) (world : model.World)
+        ensures step { IfOk result (λ answer. (schemas : Schemas EditFault) (world : model.World)
             → Keeps schemas world self.old
             → Answers schemas world (on_edit schemas number wanted.now world) answer self.new) }
+        ensures stores { OnOk result (ChangesOne number (stores_in self.old) (stores_in self.new)) }
     {
         let Some(at) = self.place(number) else {
             return Ok(Err(StepFault::NoSuchClient));
@@ -70,10 +74,11 @@ impl Live {
 
     // A client sets the record by which others see it.
     pub(crate) fn presence(&mut self, alloc: Global, number: u64, record_: Val) -> Mem<Answer>
-        ensures { IfOk result (λ answer. (schemas : Schemas EditFault) (world : model.World)
+        ensures step { IfOk result (λ answer. (schemas : Schemas EditFault) (world : model.World)
             → Keeps schemas world self.old
             → Answers schemas world (on_presence schemas number (data_of record_) world) answer
             self.new) }
+        ensures stores { OnOk result (stores_in self.new ≡ stores_in self.old) }
     {
         let Some(at) = self.place(number) else {
             return Ok(Err(StepFault::NoSuchClient));
@@ -89,8 +94,9 @@ impl Live {
 
     // A client learns that its connection is lost; the room doesn't.
     pub(crate) fn cut(&mut self, alloc: Global, number: u64) -> Answer
-        ensures { (schemas : Schemas EditFault) (world : model.World) → Keeps schemas world self.old
+        ensures step { (schemas : Schemas EditFault) (world : model.World) → Keeps schemas world self.old
             → Answers schemas world (on_cut number world) result self.new }
+        ensures stores { stores_in self.new ≡ stores_in self.old }
     {
         let Some(at) = self.place(number) else {
             return Err(StepFault::NoSuchClient);
@@ -108,8 +114,9 @@ impl Live {
 // A client of a version that did nothing.
 fn new_peer(alloc: Global, version: u32) -> Mem<Peer>
     requires { IsVersion version }
-    ensures { IfOk result (λ peer. (schemas : Schemas EditFault) → AreOfTables schemas
+    ensures stands { IfOk result (λ peer. (schemas : Schemas EditFault) → AreOfTables schemas
         → peer_of.Stands schemas (record { base = []; client = new_client version }) peer) }
+    ensures unwatched { IfOk result (λ peer. IsUnwatched (store_of peer)) }
 {
     match Peer::new(alloc, version) {
         Ok(peer) => Ok(peer),

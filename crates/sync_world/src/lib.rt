@@ -13,6 +13,7 @@ mod live;
 mod marks;
 mod sessions;
 mod shows;
+mod views;
 pub mod world;
 
 pub use world::World;

@@ -11,6 +11,8 @@ ghost use Rattle.world_queues.specs.Queues.{to_client};
 ghost use Rattle.sync_world.specs.Playing.{IsPlayed};
 ghost use Rattle.sync_world.specs.Standing.{Fits, Keeps};
 ghost use Rattle.sync_world.specs.Answers.{Answers};
+ghost use Rattle.sync_world.specs.Viewing.{stores_in, KeepsStores};
+ghost use Rattle.sync_peer.specs.Viewing.{store_of};
 
 use room_model::fault::StepFault;
 use room_model::{Event, OutLine};
@@ -56,9 +58,10 @@ impl Live {
         steps: &mut Steps<L>,
     ) -> Mem<Answer>
         requires { IsPlayed event }
-        ensures { IfOk result (λ answer. (schemas : Schemas EditFault) (world : model.World)
+        ensures step { IfOk result (λ answer. (schemas : Schemas EditFault) (world : model.World)
             → Keeps schemas world self.old
             → Answers schemas world (after_event schemas trace world event) answer self.new) }
+        ensures stores { OnOk result (KeepsStores event (stores_in self.old) (stores_in self.new)) }
     {
         match event {
             Event::Client { version } => self.join(alloc, version),
@@ -101,6 +104,7 @@ impl Live {
             → Fits schemas world self.old → slice_get world.clients at ≡ Some client
             → Fits schemas (with_pushing at (push_all client) world) self.new) }
         ensures given { OnOk result (to_client self.new.queues ≡ to_client self.old.queues) }
+        ensures stores { OnOk result (stores_in self.new ≡ stores_in self.old) }
     {
         let session = self.clients[at].session;
         let messages = pushes(alloc, &mut self.clients[at].peer)?;
@@ -116,12 +120,13 @@ impl Live {
 
 // What a client can push, the oldest first. Where memory is refused nothing is said of the client.
 fn pushes(alloc: Global, peer: &mut Peer) -> Mem<Vec<ClientMessage>>
-    ensures { IfOk result (λ messages. (schemas : Schemas EditFault) (held : Held)
+    ensures pushes { IfOk result (λ messages. (schemas : Schemas EditFault) (held : Held)
         → peer_of.Stands schemas held peer.old
         → (messages.items ≡ (push_all held.client).messages)
         × peer_of.Stands schemas (record held {
           client = (push_all held.client).client;
         }) peer.new) }
+    ensures store { store_of peer.new ≡ store_of peer.old }
 {
     let mut messages = Vec::new(alloc);
     let owed = peer.owed();

@@ -9,6 +9,7 @@ ghost use Rattle.world_queues.specs.Queues.{to_client};
 ghost use Rattle.sync_world.specs.Pushing.{push_more};
 ghost use Rattle.sync_world.specs.Standing.{Fits, Keeps};
 ghost use Rattle.sync_world.specs.Answers.{Answers};
+ghost use Rattle.sync_world.specs.Viewing.{stores_in, ChangesOne};
 
 use crate::live::{Answer, Live};
 use crate::sessions::one_line;
@@ -22,9 +23,10 @@ use undo_marks::BailFault;
 impl Live {
     // A client makes a mark.
     pub(crate) fn mark(&mut self, alloc: Global, number: u64, name: Text) -> Mem<Answer>
-        ensures { IfOk result (λ answer. (schemas : Schemas EditFault) (world : model.World)
+        ensures step { IfOk result (λ answer. (schemas : Schemas EditFault) (world : model.World)
             → Keeps schemas world self.old
             → Answers schemas world (on_mark number name world) answer self.new) }
+        ensures stores { OnOk result (stores_in self.new ≡ stores_in self.old) }
     {
         let Some(at) = self.place(number) else {
             return Ok(Err(StepFault::NoSuchClient));
@@ -40,9 +42,10 @@ impl Live {
         number: u64,
         steps: &mut Steps<L>,
     ) -> Mem<Answer>
-        ensures { IfOk result (λ answer. (schemas : Schemas EditFault) (world : model.World)
+        ensures step { IfOk result (λ answer. (schemas : Schemas EditFault) (world : model.World)
             → Keeps schemas world self.old
             → Answers schemas world (on_undo schemas number world) answer self.new) }
+        ensures stores { OnOk result (ChangesOne number (stores_in self.old) (stores_in self.new)) }
     {
         let Some(at) = self.place(number) else {
             return Ok(Err(StepFault::NoSuchClient));
@@ -71,9 +74,10 @@ impl Live {
         number: u64,
         steps: &mut Steps<L>,
     ) -> Mem<Answer>
-        ensures { IfOk result (λ answer. (schemas : Schemas EditFault) (world : model.World)
+        ensures step { IfOk result (λ answer. (schemas : Schemas EditFault) (world : model.World)
             → Keeps schemas world self.old
             → Answers schemas world (on_redo schemas number world) answer self.new) }
+        ensures stores { OnOk result (ChangesOne number (stores_in self.old) (stores_in self.new)) }
     {
         let Some(at) = self.place(number) else {
             return Ok(Err(StepFault::NoSuchClient));
@@ -103,9 +107,10 @@ impl Live {
         name: &Text,
         steps: &mut Steps<L>,
     ) -> Mem<Answer>
-        ensures { IfOk result (λ answer. (schemas : Schemas EditFault) (world : model.World)
+        ensures step { IfOk result (λ answer. (schemas : Schemas EditFault) (world : model.World)
             → Keeps schemas world self.old
             → Answers schemas world (on_bail schemas number name.now world) answer self.new) }
+        ensures stores { OnOk result (ChangesOne number (stores_in self.old) (stores_in self.new)) }
     {
         let Some(at) = self.place(number) else {
             return Ok(Err(StepFault::NoSuchClient));
@@ -130,6 +135,7 @@ impl Live {
             → Fits schemas world self.old → slice_get world.clients at ≡ Some client
             → Fits schemas (with_pushing at (push_more owed client) world) self.new) }
         ensures given { OnOk result (to_client self.new.queues ≡ to_client self.old.queues) }
+        ensures stores { OnOk result (stores_in self.new ≡ stores_in self.old) }
     {
         if owed < self.clients[at].peer.owed() {
             return self.push(alloc, at);

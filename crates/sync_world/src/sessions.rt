@@ -13,6 +13,7 @@ ghost use Rattle.world_queues.specs.Queues.{to_client};
 ghost use Rattle.sync_world.specs.Moving.{Enters, IsDelivery};
 ghost use Rattle.sync_world.specs.Standing.{Fits, Keeps};
 ghost use Rattle.sync_world.specs.Answers.{Answers};
+ghost use Rattle.sync_world.specs.Viewing.{stores_in, ChangesOne};
 
 use crate::live::{Answer, Live};
 use room_model::OutLine;
@@ -28,9 +29,10 @@ use sync_room::EnterFault;
 impl Live {
     // A client asks to be connected, by a session that enters. Its request goes to the room.
     pub(crate) fn connect(&mut self, alloc: Global, number: u64, readonly: bool) -> Mem<Answer>
-        ensures { IfOk result (λ answer. (schemas : Schemas EditFault) (world : model.World)
+        ensures step { IfOk result (λ answer. (schemas : Schemas EditFault) (world : model.World)
             → Keeps schemas world self.old
             → Answers schemas world (on_connect schemas number readonly world) answer self.new) }
+        ensures stores { OnOk result (stores_in self.new ≡ stores_in self.old) }
     {
         let Some(at) = self.place(number) else {
             return Ok(Err(StepFault::NoSuchClient));
@@ -83,9 +85,10 @@ impl Live {
         session: u64,
         steps: &mut Steps<L>,
     ) -> Mem<Answer>
-        ensures { IfOk result (λ answer. (schemas : Schemas EditFault) (world : model.World)
+        ensures step { IfOk result (λ answer. (schemas : Schemas EditFault) (world : model.World)
             → Keeps schemas world self.old
             → Answers schemas world (on_handle schemas trace session world) answer self.new) }
+        ensures stores { OnOk result (stores_in self.new ≡ stores_in self.old) }
     {
         let Some(id) = self.room.find(session) else {
             return Ok(Err(StepFault::NoSuchSession));
@@ -107,9 +110,10 @@ impl Live {
         session: u64,
         steps: &mut Steps<L>,
     ) -> Mem<Answer>
-        ensures { IfOk result (λ answer. (schemas : Schemas EditFault) (world : model.World)
+        ensures step { IfOk result (λ answer. (schemas : Schemas EditFault) (world : model.World)
             → Keeps schemas world self.old
             → Answers schemas world (on_send schemas trace session world) answer self.new) }
+        ensures stores { OnOk result (stores_in self.new ≡ stores_in self.old) }
     {
         let Some(id) = self.room.find(session) else {
             return Ok(Err(StepFault::NoSuchSession));
@@ -129,9 +133,10 @@ impl Live {
         number: u64,
         steps: &mut Steps<L>,
     ) -> Mem<Answer>
-        ensures { IfOk result (λ answer. (schemas : Schemas EditFault) (world : model.World)
+        ensures step { IfOk result (λ answer. (schemas : Schemas EditFault) (world : model.World)
             → Keeps schemas world self.old
             → Answers schemas world (on_deliver number world) answer self.new) }
+        ensures stores { OnOk result (ChangesOne number (stores_in self.old) (stores_in self.new)) }
     {
         let Some(at) = self.place(number) else {
             return Ok(Err(StepFault::NoSuchClient));
@@ -175,6 +180,7 @@ impl Live {
             → Fits schemas (with_pushing at
             (after_notice world.room.history k client notice) world) self.new) }
         ensures given { OnOk result (to_client self.new.queues ≡ to_client self.old.queues) }
+        ensures stores { OnOk result (ChangesOne at (stores_in self.old) (stores_in self.new)) }
     {
         let Ok(()) = self.clients[at].peer.take(alloc, message, steps) else {
             return Err(OutOfMemory);
@@ -188,8 +194,9 @@ impl Live {
 
     // The room learns that a session is lost, and what was in flight from it is gone.
     pub(crate) fn lose(&mut self, alloc: Global, session: u64) -> Answer
-        ensures { (schemas : Schemas EditFault) (world : model.World) → Keeps schemas world self.old
+        ensures step { (schemas : Schemas EditFault) (world : model.World) → Keeps schemas world self.old
             → Answers schemas world (on_lose session world) result self.new }
+        ensures stores { stores_in self.new ≡ stores_in self.old }
     {
         let Some(id) = self.room.find(session) else {
             return Err(StepFault::NoSuchSession);

@@ -1,5 +1,5 @@
 //! A world, which plays a recording event by event.
-ghost use Rattle.std.specs.Prelude.{◌≡◌, ◌<◌, ℕ, List, Bool, true, Some, IfOk, OnOk, Err, slice_get, vec_len};
+ghost use Rattle.std.specs.Prelude.{◌≡◌, ◌≢◌, ◌<◌, ℕ, List, Bool, [], true, Some, IfOk, OnOk, Err, slice_get, vec_len};
 ghost use Rattle.rooms_val.specs.Data.{Pairs};
 ghost use Rattle.room_model.specs.Schemas.{Schemas};
 ghost use Rattle.room_model.specs.Replicas.{Client};
@@ -14,6 +14,7 @@ ghost use Rattle.sync_world.specs.Holding.{held_of};
 ghost use Rattle.sync_world.specs.Standing.{Stands, IsAtVersion};
 ghost use Rattle.sync_world.specs.Answers.{StepsTo, is_spent};
 ghost use Rattle.sync_world.specs.Restoring.{GoesBack, Shows};
+ghost use Rattle.sync_world.specs.Viewing.{stores_of, KeepsStores};
 ghost use Rattle.sync_world.specs.CaughtUp.{CaughtUpShowTheRoom};
 ghost use Rattle.sync_world.specs.Entries.{ReadonlyEditNothing, AuthorsNameTheirOwn, OthersRemovePresences};
 
@@ -34,7 +35,7 @@ use world_queues::Queues;
 #[derive(Drop)]
 pub struct World {
     // The parts. Nothing is said of them once memory ran out.
-    live: Live,
+    pub(crate) live: Live,
     // Whether memory ran out.
     spent: bool,
 }
@@ -44,8 +45,9 @@ impl World {
     /// is no client. It costs the schema.
     pub fn new(alloc: Global, version: u32) -> Mem<World>
         requires { IsVersion version }
-        ensures { IfOk result (λ world. (schemas : Schemas EditFault)
+        ensures stands { IfOk result (λ world. (schemas : Schemas EditFault)
             × (IsAtVersion version schemas) × Stands schemas new_world world) }
+        ensures stores { IfOk result (λ world. stores_of world ≡ []) }
     {
         match schema_at(alloc, version) {
             Ok(schema) => Ok(World {
@@ -97,6 +99,8 @@ impl World {
             → Stands schemas world self.old → IsSinceMark schemas number name before world
             → GoesBack schemas world number name before event
             → Shows schemas number before self.new) }
+        ensures stores { result ≢ Err StepFault.OutOfMemory
+            → KeepsStores event (stores_of self.old) (stores_of self.new) }
         ensures caught_up { CaughtUpShowTheRoom self.new }
         ensures readonly { ReadonlyEditNothing self.new }
         ensures authored { AuthorsNameTheirOwn self.new }

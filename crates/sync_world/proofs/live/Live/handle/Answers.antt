@@ -8,15 +8,15 @@ use Rattle.sync_world.proofs.EventLemmas.{handle_refused, handle_done}
 use Rattle.sync_world.proofs.RoomPeerLemmas.{is_here}
 use Rattle.sync_world.proofs.live.Live.handle.Goals as goal
 
-pub returns-in_default-take_sent : goal.returns-in_default-take_sent
-returns-in_default-take_sent g c schemas world keeps =
+pub returns-in_default-take_sent-clause-step : goal.returns-in_default-take_sent-clause-step
+returns-in_default-take_sent-clause-step g c schemas world keeps =
     let found = c.in-Some.ensures.found in
     let here = is_here world.room c.args.self.now.room c.in-Some.id keeps.fits.room found.1 in
     let there = subst (λ n. model.session_at n world.room ≡ Some here.0) found.0 here.1 in
     handle_refused schemas world c.args.self.now keeps c.args.session here.0 there c.args.trace (sym c.in_default-take_sent.is ∙ c.take_sent.ensures.first) _ refl refl c.take_sent.ensures.rest c.take_sent.ensures.given
 
-pub returns : goal.returns
-returns g c schemas world keeps =
+pub returns-clause-step : goal.returns-clause-step
+returns-clause-step g c schemas world keeps =
     let found = c.in-Some.ensures.found in
     let here = is_here world.room c.args.self.now.room c.in-Some.id keeps.fits.room found.1 in
     let there = subst (λ n. model.session_at n world.room ≡ Some here.0) found.0 here.1 in

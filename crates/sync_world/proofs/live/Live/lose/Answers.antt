@@ -5,8 +5,8 @@ use Rattle.sync_world.proofs.EventLemmas.{lose_done}
 use Rattle.sync_world.proofs.RoomPeerLemmas.{is_here}
 use Rattle.sync_world.proofs.live.Live.lose.Goals as goal
 
-pub returns : goal.returns
-returns c schemas world keeps =
+pub returns-clause-step : goal.returns-clause-step
+returns-clause-step c schemas world keeps =
     let found = c.in-Some.ensures.found in
     let here = is_here world.room c.args.self.now.room c.in-Some.id keeps.fits.room found.1 in
     let there = subst (λ n. model.session_at n world.room ≡ Some here.0) found.0 here.1 in

@@ -9,8 +9,8 @@ use Rattle.sync_world.proofs.EventLemmas.{send_refused, send_done}
 use Rattle.sync_world.proofs.RoomPeerLemmas.{is_here}
 use Rattle.sync_world.proofs.live.Live.send.Goals as goal
 
-pub returns-in_default-2 : goal.returns-in_default-2
-returns-in_default-2 g c schemas world keeps =
+pub returns-in_default-2-clause-step : goal.returns-in_default-2-clause-step
+returns-in_default-2-clause-step g c schemas world keeps =
     let found = c.in-Some.ensures.found in
     let here = is_here world.room c.args.self.now.room c.in-Some.id keeps.fits.room found.1 in
     let there = subst (λ n. model.session_at n world.room ≡ Some here.0) found.0 here.1 in
@@ -21,8 +21,8 @@ returns-in_default-2 g c schemas world keeps =
     (subst (λ o. room_of.Drains world.room c.args.session (model.next_for schemas world.room c.args.session) o c.drain.new.self) c.in_default-2.is so)
     c.in_ok-out.ensures.schema refl refl
 
-pub returns : goal.returns
-returns g c schemas world keeps =
+pub returns-clause-step : goal.returns-clause-step
+returns-clause-step g c schemas world keeps =
     let found = c.in-Some.ensures.found in
     let here = is_here world.room c.args.self.now.room c.in-Some.id keeps.fits.room found.1 in
     let there = subst (λ n. model.session_at n world.room ≡ Some here.0) found.0 here.1 in

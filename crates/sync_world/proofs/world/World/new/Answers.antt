@@ -12,8 +12,8 @@ use Rattle.sync_world.proofs.world.World.new.Goals as goal
 pub new-requires-clause-presence : goal.new-requires-clause-presence
 new-requires-clause-presence c = presences c.args.version (schema_tree c.in-Ok.schema) c.in-Ok.ensures.known
 
-pub returns-in_ok-new-in-Ok : goal.returns-in_ok-new-in-Ok
-returns-in_ok-new-in-Ok c =
+pub returns-in_ok-new-in-Ok-clause-stands : goal.returns-in_ok-new-in-Ok-clause-stands
+returns-in_ok-new-in-Ok-clause-stands c =
     let room = c.in_ok-new-in-Ok.field-0 in
     let live : Live = record { room = room; queues = c.new-in-Ok.result; clients = c.new-in-Ok-2.result } in
     let at = subst (λ s. IsSchemaAt c.args.version s) (sym c.in_ok-new-in-Ok.ensures.schema) c.in-Ok.ensures.known in

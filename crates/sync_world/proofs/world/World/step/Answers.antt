@@ -11,13 +11,13 @@ pub returns-in-Ok-clause-step : goal.returns-in-Ok-clause-step
 returns-in-Ok-clause-step g c = λ schemas world stands.
     let outcome = after_event schemas c.args.trace world c.args.event in
     subst (λ b. StepsTo schemas world outcome c.in-Ok.answer (record { live = c.happen.new.self; spent = b })) (sym c.is_spent-self.ensures)
-    (steps_to schemas world outcome c.in-Ok.answer c.happen.new.self (c.in-Ok.ensures schemas world stands.keeps))
+    (steps_to schemas world outcome c.in-Ok.answer c.happen.new.self (c.in-Ok.ensures.step schemas world stands.keeps))
 
 pub returns-in-Ok-clause-spends : goal.returns-in-Ok-clause-spends
 returns-in-Ok-clause-spends g c = λ is. c.is_spent-self.ensures ∙ ap is_spent is
 
 pub returns-in-Ok-clause-goes_back : goal.returns-in-Ok-clause-goes_back
-returns-in-Ok-clause-goes_back g c = goes_back c.args.trace c.args.event c.args.self.now c.happen.new.self _ c.in-Ok.answer c.is_spent-self.ensures c.in-Ok.ensures
+returns-in-Ok-clause-goes_back g c = goes_back c.args.trace c.args.event c.args.self.now c.happen.new.self _ c.in-Ok.answer c.is_spent-self.ensures c.in-Ok.ensures.step
 
 pub returns-in-Ok-clause-caught_up : goal.returns-in-Ok-clause-caught_up
 returns-in-Ok-clause-caught_up g c =
@@ -38,3 +38,6 @@ pub returns-in-Ok-clause-unauthored : goal.returns-in-Ok-clause-unauthored
 returns-in-Ok-clause-unauthored g c =
     let code : World = record { live = c.happen.new.self; spent = c.is_spent-self.result } in
     unauthored code
+
+pub returns-in-Ok-clause-stores : goal.returns-in-Ok-clause-stores
+returns-in-Ok-clause-stores g c = λ going. c.in-Ok.ensures.stores
