@@ -1,0 +1,245 @@
+//! A world whose clients watch views, which plays a recording event by event.
+ghost use Rattle.std.specs.Prelude.{◌≡◌, ◌∷◌, [], ℕ, Bool, List, Some, None, true, IfOk, OnOk, Err};
+ghost use Rattle.room_model.specs.Schemas.{Schemas};
+ghost use Rattle.side_effects.specs.declared.fault.EditFault.{EditFault};
+ghost use Rattle.tl_tables.specs.Tables.{IsVersion};
+ghost use Rattle.sync_world.specs.Playing.{IsPlayed};
+ghost use Rattle.sync_world.specs.Standing.{IsAtVersion};
+ghost use Rattle.sync_world.specs.Viewing.{changed_by};
+ghost use Rattle.sync_world.specs.CaughtUp.{CaughtUpShowTheRoom};
+ghost use Rattle.world_views.specs.Views.{Viewed, nothing_viewed, tells, on_event, on_watch, on_query, after_recorded};
+ghost use Rattle.world_views.specs.Standing.{Keeps, MayTell, After, Stands, StepsTo, IsPlayable, is_spent};
+
+use crate::lines::{add_told, one_line, printed};
+use live_views::WatchFault;
+use rec_format::{IdList, PrintedLine, RecordedEvent};
+use room_model::Event;
+use room_model::fault::StepFault;
+use rooms_val::{Mem, OutOfMemory, Steps};
+use shape_tree::{Query, View};
+use side_effects::EditFault;
+use std::alloc::Global;
+use std::sync::ledger::Ledger;
+use sync_world::World;
+
+/// The lines that an event prints, or why it can't happen.
+type Answer = Result<Vec<PrintedLine>, StepFault<EditFault>>;
+
+/// A room, the clients over it, what is in flight between them, and what each client watches.
+#[derive(Drop)]
+pub struct ViewedWorld {
+    // The world. Its clients' stores have what they watch. Nothing is said of it once memory ran out.
+    world: World,
+    // Whether memory ran out.
+    spent: bool,
+}
+
+impl ViewedWorld {
+    /// A world whose room has the schema of a version, 1 to 3; nobody entered the room, and there
+    /// is no client. It costs the schema.
+    pub fn new(alloc: Global, version: u32) -> Mem<ViewedWorld>
+        requires { IsVersion version }
+        ensures { IfOk result (λ code. (schemas : Schemas EditFault)
+            × (IsAtVersion version schemas) × Stands schemas nothing_viewed code) }
+    {
+        Ok(ViewedWorld {
+            world: World::new(alloc, version)?,
+            spent: false,
+        })
+    }
+
+    /// Lets an event of a recording happen, and answers the lines that it prints: its own, with
+    /// `trace` also those of the messages that it moves, and then what each client has to tell, by
+    /// client and by watch. A client's version is 1 to 3. It costs what the event costs in the
+    /// world, and a look at each watch of the one client whose document or watches it may change; a
+    /// query costs a walk over the ids of what its client shows.
+    ///
+    /// # Errors
+    ///
+    /// `NoSuchClient`, `NoSuchSession`, `NothingThere`, `Edit`, `Connect`, `NoMark` and `Limit` exactly if
+    /// the definitions refuse the event so; then the world is as before. After `OutOfMemory` every
+    /// further step answers it.
+    pub fn step<L: Ledger>(
+        &mut self,
+        alloc: Global,
+        event: RecordedEvent,
+        trace: bool,
+        steps: &mut Steps<L>,
+    ) -> Result<Vec<PrintedLine>, StepFault<EditFault>>
+        requires { IsPlayable event }
+        ensures step { (schemas : Schemas EditFault) (viewed : Viewed)
+            → Stands schemas viewed self.old
+            → StepsTo schemas viewed (after_recorded schemas trace viewed event) result self.new }
+        ensures caught_up { CaughtUpShowTheRoom self.new.world }
+        ensures spent { self.old.spent ≡ true
+            → (result ≡ Err StepFault.OutOfMemory) × (self.new.spent ≡ true) }
+        ensures spends { result ≡ Err StepFault.OutOfMemory → self.new.spent ≡ true }
+    {
+        if self.spent {
+            return Err(StepFault::OutOfMemory);
+        }
+        match self.take(alloc, event, trace, steps) {
+            Ok(answer) => {
+                self.spent = is_spent(&answer);
+                answer
+            }
+            Err(_) => {
+                self.spent = true;
+                Err(StepFault::OutOfMemory)
+            }
+        }
+    }
+
+    /// The world by itself.
+    pub fn world(&self) -> &World
+        ensures { result.now ≡ self.now.world }
+    {
+        &self.world
+    }
+
+    // Lets an event of a recording happen. Where memory is refused nothing is said of the world.
+    fn take<L: Ledger>(
+        &mut self,
+        alloc: Global,
+        event: RecordedEvent,
+        trace: bool,
+        steps: &mut Steps<L>,
+    ) -> Mem<Answer>
+        requires { IsPlayable event }
+        ensures { IfOk result (λ answer. (schemas : Schemas EditFault) (viewed : Viewed)
+            → Stands schemas viewed self.old
+            → StepsTo schemas viewed (after_recorded schemas trace viewed event) answer self.new) }
+    {
+        match event {
+            RecordedEvent::World(event) => self.happen(alloc, event, trace, steps),
+            RecordedEvent::Watch { client, view } => self.watch(alloc, client, &view, steps),
+            RecordedEvent::Query {
+                client,
+                type_name,
+                where_,
+            } => self.query(alloc, client, type_name.as_str(), &where_),
+        }
+    }
+
+    // Lets an event happen in the world, and the client tell whose document it may change.
+    fn happen<L: Ledger>(
+        &mut self,
+        alloc: Global,
+        event: Event,
+        trace: bool,
+        steps: &mut Steps<L>,
+    ) -> Mem<Answer>
+        requires { IsPlayed event }
+        ensures { IfOk result (λ answer. (schemas : Schemas EditFault) (viewed : Viewed)
+            → Stands schemas viewed self.old
+            → StepsTo schemas viewed (on_event schemas trace event viewed) answer self.new) }
+    {
+        let changed = changed_by(&event);
+        match self.world.step(alloc, event, trace, steps) {
+            Ok(lines) => {
+                let lines = printed(alloc, lines)?;
+                Ok(Ok(self.tell_changed(alloc, changed, lines, steps)?))
+            }
+            Err(fault) => Ok(Err(fault)),
+        }
+    }
+
+    // A client watches a view, and tells it.
+    fn watch<L: Ledger>(
+        &mut self,
+        alloc: Global,
+        client: u64,
+        view: &View,
+        steps: &mut Steps<L>,
+    ) -> Mem<Answer>
+        ensures { IfOk result (λ answer. (schemas : Schemas EditFault) (viewed : Viewed)
+            → Stands schemas viewed self.old
+            → StepsTo schemas viewed (on_watch schemas client view.now viewed) answer self.new) }
+    {
+        if !self.world.has_client(client) {
+            return Ok(Err(StepFault::NoSuchClient));
+        }
+        match self.world.watch(alloc, client, view) {
+            Ok(_) => Ok(Ok(self.tell(alloc, client, Vec::new(alloc), steps)?)),
+            Err(WatchFault::Full) => Ok(Err(StepFault::Limit)),
+            Err(WatchFault::OutOfMemory) => Err(OutOfMemory),
+        }
+    }
+
+    // A client asks for the ids of the records of a type, among those that it shows, that meet a
+    // query.
+    fn query(&self, alloc: Global, client: u64, type_name: &str, query: &Query) -> Mem<Answer>
+        ensures { IfOk result (λ answer. (schemas : Schemas EditFault) (viewed : Viewed)
+            → Stands schemas viewed self.now
+            → StepsTo schemas viewed (on_query schemas client type_name.now query.now viewed) answer
+            self.now) }
+    {
+        if !self.world.has_client(client) {
+            return Ok(Err(StepFault::NoSuchClient));
+        }
+        let ids = IdList::of(self.world.query(alloc, client, type_name, query)?);
+        Ok(Ok(one_line(alloc, PrintedLine::Ids { client, ids })?))
+    }
+
+    // Adds what the client has to tell whose document an event may have changed, if there is one.
+    fn tell_changed<L: Ledger>(
+        &mut self,
+        alloc: Global,
+        changed: Option<u64>,
+        lines: Vec<PrintedLine>,
+        steps: &mut Steps<L>,
+    ) -> Mem<Vec<PrintedLine>>
+        ensures told { IfOk result (λ all. (schemas : Schemas EditFault) (viewed : Viewed)
+            → After schemas changed viewed self.old.world
+            → (all.items ≡ (tells schemas lines.items viewed).lines)
+            × Keeps schemas (tells schemas lines.items viewed).viewed self.new.world) }
+        ensures spent { self.new.spent ≡ self.old.spent }
+    {
+        match changed {
+            Some(client) => self.tell(alloc, client, lines, steps),
+            None => Ok(lines),
+        }
+    }
+
+    // Adds what a client has to tell, if it was made. Nobody else has something to tell.
+    fn tell<L: Ledger>(
+        &mut self,
+        alloc: Global,
+        client: u64,
+        lines: Vec<PrintedLine>,
+        steps: &mut Steps<L>,
+    ) -> Mem<Vec<PrintedLine>>
+        ensures told { IfOk result (λ all. (schemas : Schemas EditFault) (viewed : Viewed)
+            → MayTell schemas client viewed self.old.world
+            → (all.items ≡ (tells schemas lines.items viewed).lines)
+            × Keeps schemas (tells schemas lines.items viewed).viewed self.new.world) }
+        ensures spent { self.new.spent ≡ self.old.spent }
+    {
+        if !self.world.has_client(client) {
+            return Ok(lines);
+        }
+        let told = self.world.told(alloc, client, steps)?;
+        add_told(client, lines, told)
+    }
+}
+
+// The client whose document an event may change.
+fn changed_by(event: &Event) -> Option<u64>
+    ensures { result ≡ changed_by event.now }
+{
+    match event {
+        Event::Edit { client, .. } => Some(*client),
+        Event::Undo { client } => Some(*client),
+        Event::Redo { client } => Some(*client),
+        Event::Bail { client, .. } => Some(*client),
+        Event::Deliver { client } => Some(*client),
+        _ => None,
+    }
+}
+
+// Whether an answer says that memory ran out.
+fn is_spent(answer: &Answer) -> bool
+    ensures { result ≡ is_spent answer.now }
+{
+    matches!(answer, Err(StepFault::OutOfMemory))
+}
