@@ -6,7 +6,7 @@ use Rattle.rooms.specs.declared.play.End.{End}
 use Rattle.rooms.specs.declared.play.End.TheVariants.{Done, Refused}
 use Rattle.rooms.specs.declared.play.Stop.{Stop}
 use Rattle.rooms.specs.declared.play.Stop.TheVariants.{SourceFailed, SinkFailed, OutOfMemory}
-use Rattle.sync_world.specs.declared.world.World.{World}
+use Rattle.world_views.specs.declared.viewed.ViewedWorld.{ViewedWorld}
 
 -- a recording that was read has status 0 or 3
 pub read_status : (e : End) → IsReplayStatus (status_code (Ok e))
@@ -47,7 +47,7 @@ sink_failed SinkFailed is = refl
 sink_failed OutOfMemory is = absurd (omega (arith, is))
 
 -- what is said of sink and world is said of the sink
-pub prints : (trace : Bool) (left : Option (List ℕ)) (status : ℕ) (world : Option World) (old new : Option (List ℕ)) → WritesAll trace left status world old new → Prints trace left status old new
+pub prints : (trace : Bool) (left : Option (List ℕ)) (status : ℕ) (world : Option ViewedWorld) (old new : Option (List ℕ)) → WritesAll trace left status world old new → Prints trace left status old new
 prints trace None status world old new all = tt
 prints trace (Some recording) status world old new all = (all.0, all.1, all.2, all.4)
 

@@ -5,7 +5,7 @@ use Rattle.std.specs.Prelude.{⊤}
 use Rattle.room_link.specs.Held.{Extends}
 use Rattle.room_link.proofs.HeldLemmas.{Extends-nil, Extends-trans}
 use Rattle.recording_lines.specs.Lines.{lines_left, is_whole, recorded_lines, most_bytes}
-use Rattle.room_model.specs.declared.line.OutLine.{OutLine}
+use Rattle.rec_format.specs.declared.printed.PrintedLine.{PrintedLine}
 use Rattle.rooms.specs.Taking.{Progress, Taken, refused, passed, ended, Takes}
 use Rattle.rooms.specs.Texts.{lines_text, fault_line, unended_text}
 use Rattle.rooms.specs.Replay.{Written, Writes, WritesFront, Replays, ReplaysFront, IsFront}
@@ -17,7 +17,7 @@ use Rattle.rooms.specs.declared.play.End.{End}
 use Rattle.rooms.specs.declared.play.End.TheVariants as end
 use Rattle.rooms.specs.declared.replay.Reply.{Reply}
 use Rattle.rooms.specs.declared.replay.Reply.TheVariants.{Refused, Wrote, Ended}
-use Rattle.sync_world.specs.declared.world.World.{World}
+use Rattle.world_views.specs.declared.viewed.ViewedWorld.{ViewedWorld}
 
 -- what is left to write, behind what was written so far
 abbrev pub behind : List ℕ → Written → Written
@@ -33,7 +33,7 @@ pub goes_nowhere : (trace : Bool) (recording : List ℕ) → Goes trace recordin
 goes_nowhere trace recording = record { whole = λ w writes. writes; front = λ f writes. writes }
 
 -- a line that prints lines was taken
-pub goes_on : (trace : Bool) (recording : List ℕ) (progress next : Progress) (at : ℕ) (line : List ℕ) (lines : List (List ℕ)) (so_far : List ℕ) (out : List OutLine)
+pub goes_on : (trace : Bool) (recording : List ℕ) (progress next : Progress) (at : ℕ) (line : List ℕ) (lines : List (List ℕ)) (so_far : List ℕ) (out : List PrintedLine)
     → Takes trace progress line (passed out next) → Goes trace recording progress at (line ∷ lines) so_far
     → Goes trace recording next (at + 1) lines (so_far ++ lines_text out)
 goes_on trace recording progress next at line lines so_far out takes goes = record {
@@ -56,11 +56,11 @@ front_so_far trace recording progress at (line ∷ lines) so_far goes =
     subst (ReplaysFront trace recording) (append-nil so_far) (goes.front [] (inl refl))
 
 -- where the recording ends with what becomes of the next line, that is what the recording writes
-abbrev Ends : Bool → List ℕ → List ℕ → ℕ → Reply → End → Option World → Type 0
+abbrev Ends : Bool → List ℕ → List ℕ → ℕ → Reply → End → Option ViewedWorld → Type 0
 Ends trace recording so_far at reply e world =
     (w : Written) × Replays trace recording w × (status_code (Ok e) ≡ status_of w) × Reads w.reached world × (w.text ≡ so_far ++ reply_text at reply)
 
-ends_with : (trace : Bool) (recording : List ℕ) (progress : Progress) (at : ℕ) (line : List ℕ) (lines : List (List ℕ)) (so_far : List ℕ) (reply : Reply) (e : End) (world : Option World) (taken : Taken)
+ends_with : (trace : Bool) (recording : List ℕ) (progress : Progress) (at : ℕ) (line : List ℕ) (lines : List (List ℕ)) (so_far : List ℕ) (reply : Reply) (e : End) (world : Option ViewedWorld) (taken : Taken)
     → Takes trace progress line taken → Tells progress taken reply world → reply_end reply ≡ Some e → Goes trace recording progress at (line ∷ lines) so_far → Ends trace recording so_far at reply e world
 ends_with trace recording progress at line lines so_far (Refused told) end.Refused world (refused text) takes tells is goes = (
   behind so_far (record { text = fault_line at text; is_ended = false; reached = progress }),
@@ -82,7 +82,7 @@ ends_with trace recording progress at line lines so_far (Ended told) end.Done wo
 ends_with trace recording progress at line lines so_far (Ended told) end.Refused world taken takes tells is goes = absurd (cc)
 ends_with trace recording progress at line lines so_far (Wrote told) e world taken takes tells is goes = absurd (cc)
 
-ends_there : (trace : Bool) (recording : List ℕ) (progress : Progress) (at : ℕ) (so_far : List ℕ) (reply : Reply) (e : End) (world : Option World) (whole : Bool)
+ends_there : (trace : Bool) (recording : List ℕ) (progress : Progress) (at : ℕ) (so_far : List ℕ) (reply : Reply) (e : End) (world : Option ViewedWorld) (whole : Bool)
     → is_whole recording ≡ whole → IsNext trace progress [] whole reply world → reply_end reply ≡ Some e → Goes trace recording progress at [] so_far → Ends trace recording so_far at reply e world
 ends_there trace recording progress at so_far (Refused told) end.Refused world whole same next is goes =
     let w : Written = record { text = fault_line at (unended_text (is_whole recording)); is_ended = false; reached = progress } in
@@ -91,14 +91,14 @@ ends_there trace recording progress at so_far (Refused told) end.Done world whol
 ends_there trace recording progress at so_far (Wrote told) e world whole same next is goes = absurd next
 ends_there trace recording progress at so_far (Ended told) e world whole same next is goes = absurd next
 
-pub ends : (trace : Bool) (recording : List ℕ) (progress : Progress) (at : ℕ) (lines : List (List ℕ)) (so_far : List ℕ) (reply : Reply) (e : End) (world : Option World) (whole : Bool)
+pub ends : (trace : Bool) (recording : List ℕ) (progress : Progress) (at : ℕ) (lines : List (List ℕ)) (so_far : List ℕ) (reply : Reply) (e : End) (world : Option ViewedWorld) (whole : Bool)
     → is_whole recording ≡ whole → IsNext trace progress lines whole reply world → reply_end reply ≡ Some e → Goes trace recording progress at lines so_far → Ends trace recording so_far at reply e world
 ends trace recording progress at [] so_far reply e world whole same next is goes = ends_there trace recording progress at so_far reply e world whole same next is goes
 ends trace recording progress at (line ∷ lines) so_far reply e world whole same next is goes =
     ends_with trace recording progress at line lines so_far reply e world next.0 next.1 next.2 is goes
 
 -- a front of what becomes of the next line is written
-front_with : (trace : Bool) (recording : List ℕ) (progress : Progress) (at : ℕ) (line : List ℕ) (lines : List (List ℕ)) (so_far front : List ℕ) (reply : Reply) (world : Option World) (taken : Taken)
+front_with : (trace : Bool) (recording : List ℕ) (progress : Progress) (at : ℕ) (line : List ℕ) (lines : List (List ℕ)) (so_far front : List ℕ) (reply : Reply) (world : Option ViewedWorld) (taken : Taken)
     → Takes trace progress line taken → Tells progress taken reply world → IsFront front (reply_text at reply) → Goes trace recording progress at (line ∷ lines) so_far → ReplaysFront trace recording (so_far ++ front)
 front_with trace recording progress at line lines so_far front (Refused told) world (refused text) takes tells is goes =
     goes.front front (inr (refused text, takes, subst (λ t. IsFront front (fault_line at t)) tells.0 is))
@@ -108,21 +108,21 @@ front_with trace recording progress at line lines so_far front (Ended told) worl
     goes.front front (inr (ended out next, takes, subst (λ t. IsFront front (lines_text t)) tells.0 is))
 front_with trace recording progress at line lines so_far front reply world taken takes tells is goes = absurd tells
 
-front_there : (trace : Bool) (recording : List ℕ) (progress : Progress) (at : ℕ) (so_far front : List ℕ) (reply : Reply) (world : Option World) (whole : Bool)
+front_there : (trace : Bool) (recording : List ℕ) (progress : Progress) (at : ℕ) (so_far front : List ℕ) (reply : Reply) (world : Option ViewedWorld) (whole : Bool)
     → is_whole recording ≡ whole → IsNext trace progress [] whole reply world → IsFront front (reply_text at reply) → Goes trace recording progress at [] so_far → ReplaysFront trace recording (so_far ++ front)
 front_there trace recording progress at so_far front (Refused told) world whole same next is goes =
     goes.front front (subst (λ t. IsFront front (fault_line at t)) (next.0 ∙ ap unended_text (sym same)) is)
 front_there trace recording progress at so_far front (Wrote told) world whole same next is goes = absurd next
 front_there trace recording progress at so_far front (Ended told) world whole same next is goes = absurd next
 
-pub front_of_reply : (trace : Bool) (recording : List ℕ) (progress : Progress) (at : ℕ) (lines : List (List ℕ)) (so_far front : List ℕ) (reply : Reply) (world : Option World) (whole : Bool)
+pub front_of_reply : (trace : Bool) (recording : List ℕ) (progress : Progress) (at : ℕ) (lines : List (List ℕ)) (so_far front : List ℕ) (reply : Reply) (world : Option ViewedWorld) (whole : Bool)
     → is_whole recording ≡ whole → IsNext trace progress lines whole reply world → IsFront front (reply_text at reply) → Goes trace recording progress at lines so_far → ReplaysFront trace recording (so_far ++ front)
 front_of_reply trace recording progress at [] so_far front reply world whole same next is goes = front_there trace recording progress at so_far front reply world whole same next is goes
 front_of_reply trace recording progress at (line ∷ lines) so_far front reply world whole same next is goes =
     front_with trace recording progress at line lines so_far front reply world next.0 next.1 next.2 is goes
 
 -- lines were printed, and the recording goes on
-pub goes_on_with : (trace : Bool) (recording : List ℕ) (progress : Progress) (at : ℕ) (lines : List (List ℕ)) (so_far : List ℕ) (told : Vec OutLine) (world : Option World) (whole : Bool)
+pub goes_on_with : (trace : Bool) (recording : List ℕ) (progress : Progress) (at : ℕ) (lines : List (List ℕ)) (so_far : List ℕ) (told : Vec PrintedLine) (world : Option ViewedWorld) (whole : Bool)
     → IsNext trace progress lines whole (Wrote told) world → Goes trace recording progress at lines so_far
     → (next : Progress) × Reads next world × Goes trace recording next (at + 1) (drop 1 lines) (so_far ++ lines_text told.items)
 goes_on_with trace recording progress at [] so_far told world whole next goes = absurd next
@@ -136,7 +136,7 @@ goes_on_with trace recording progress at (line ∷ lines) so_far told world whol
     with_taken (ended out next) takes tells = absurd tells
 
 -- how far the code is: some text was written of what the recording writes, and the lines that are left are still to come
-pub record SoFar (trace : Bool) (recording : List ℕ) (world : Option World) (at budget : ℕ) (come : List ℕ) (old new : Option (List ℕ)) : Type 0 where
+pub record SoFar (trace : Bool) (recording : List ℕ) (world : Option ViewedWorld) (at budget : ℕ) (come : List ℕ) (old new : Option (List ℕ)) : Type 0 where
   pub text : List ℕ
   pub progress : Progress
   pub reads : Reads progress world
@@ -145,7 +145,7 @@ pub record SoFar (trace : Bool) (recording : List ℕ) (world : Option World) (a
   pub goes : Goes trace recording progress at (lines_left budget come) text
 
 -- the same, where the source tells what it had and has
-abbrev pub Going : Bool → Option (List ℕ) → Option World → ℕ → ℕ → Option (List ℕ) → Option (List ℕ) → Option (List ℕ) → Type 0
+abbrev pub Going : Bool → Option (List ℕ) → Option ViewedWorld → ℕ → ℕ → Option (List ℕ) → Option (List ℕ) → Option (List ℕ) → Type 0
 Going trace None world at budget come old new = ⊤
 Going trace (Some recording) world at budget None old new = ⊥
 Going trace (Some recording) world at budget (Some come) old new = SoFar trace recording world at budget come old new
@@ -163,7 +163,7 @@ going_nowhere trace (Some recording) held = record {
 }
 
 -- where nothing more is written
-pub stops_here : (trace : Bool) (left : Option (List ℕ)) (world : Option World) (at budget : ℕ) (come old new : Option (List ℕ))
+pub stops_here : (trace : Bool) (left : Option (List ℕ)) (world : Option ViewedWorld) (at budget : ℕ) (come old new : Option (List ℕ))
     → Going trace left world at budget come old new → PrintsFront trace left old new
 stops_here trace None world at budget come old new going = tt
 stops_here trace (Some recording) world at budget None old new going = absurd going
@@ -171,7 +171,7 @@ stops_here trace (Some recording) world at budget (Some come) old new going =
     (going.text, front_so_far trace recording going.progress at (lines_left budget come) going.text going.goes, going.written)
 
 -- what the next line prints was written, and the recording goes on
-pub going_on : (trace : Bool) (left : Option (List ℕ)) (world next : Option World) (at before after : ℕ) (come to_come old mid new : Option (List ℕ)) (reply : Reply)
+pub going_on : (trace : Bool) (left : Option (List ℕ)) (world next : Option ViewedWorld) (at before after : ℕ) (come to_come old mid new : Option (List ℕ)) (reply : Reply)
     → Going trace left world at before come old mid
     → ((progress : Progress) → Reads progress world → Proceeds trace progress before come after to_come reply next)
     → reply_end reply ≡ None → Extends mid new (reply_text at reply)
@@ -194,7 +194,7 @@ going_on trace (Some recording) world next at before after (Some come) (Some fur
     }
 
 -- what the next line prints was written, and the recording ends
-pub going_to_end : (trace : Bool) (left : Option (List ℕ)) (world next : Option World) (at before after : ℕ) (come to_come old mid new : Option (List ℕ)) (reply : Reply) (e : End)
+pub going_to_end : (trace : Bool) (left : Option (List ℕ)) (world next : Option ViewedWorld) (at before after : ℕ) (come to_come old mid new : Option (List ℕ)) (reply : Reply) (e : End)
     → Going trace left world at before come old mid
     → ((progress : Progress) → Reads progress world → Proceeds trace progress before come after to_come reply next)
     → reply_end reply ≡ Some e → Extends mid new (reply_text at reply)
@@ -207,7 +207,7 @@ going_to_end trace (Some recording) world next at before after (Some come) to_co
     (last.0, last.1, last.2, last.3, subst (Extends old new) (sym last.4) (Extends-trans old mid new going.text (reply_text at reply) going.written written))
 
 -- a front of what the next line prints was written
-pub stops_in : (trace : Bool) (left : Option (List ℕ)) (world next : Option World) (at before after : ℕ) (come to_come old mid new : Option (List ℕ)) (reply : Reply) (front : List ℕ)
+pub stops_in : (trace : Bool) (left : Option (List ℕ)) (world next : Option ViewedWorld) (at before after : ℕ) (come to_come old mid new : Option (List ℕ)) (reply : Reply) (front : List ℕ)
     → Going trace left world at before come old mid
     → ((progress : Progress) → Reads progress world → Proceeds trace progress before come after to_come reply next)
     → IsFront front (reply_text at reply) → Extends mid new front

@@ -10,10 +10,10 @@ use Rattle.rooms.specs.Texts.{unended_text}
 use Rattle.rooms.specs.declared.replay.Reply.{Reply}
 use Rattle.rooms.specs.declared.replay.Reply.TheVariants.{Refused, Wrote, Ended}
 use Rattle.rooms.proofs.TakingLemmas.{becomes_too_long}
-use Rattle.sync_world.specs.declared.world.World.{World}
+use Rattle.world_views.specs.declared.viewed.ViewedWorld.{ViewedWorld}
 
 -- a line was given, and taken
-pub proceeds_line : (trace : Bool) (progress : Progress) (before after : ℕ) (old new : Option (List ℕ)) (line : List ℕ) (reply : Reply) (world : Option World)
+pub proceeds_line : (trace : Bool) (progress : Progress) (before after : ℕ) (old new : Option (List ℕ)) (line : List ℕ) (reply : Reply) (world : Option ViewedWorld)
     → LosesLine before old after new line → Becomes trace progress line reply world → Proceeds trace progress before old after new reply world
 proceeds_line trace progress before after None new line reply world loses becomes = tt
 proceeds_line trace progress before after (Some old) None line reply world loses becomes = absurd loses
@@ -27,13 +27,13 @@ proceeds_line trace progress before after (Some old) (Some new) line reply world
     still_to_come (Refused text) = tt
     still_to_come (Ended lines) = tt
 
-next_is_too_long : (trace : Bool) (progress : Progress) (lines : List (List ℕ)) (whole : Bool) (text : List ℕ) (world : Option World)
+next_is_too_long : (trace : Bool) (progress : Progress) (lines : List (List ℕ)) (whole : Bool) (text : List ℕ) (world : Option ViewedWorld)
     → BeginsTooLong lines → text ≡ codes "LineTooLong" → Reads progress world → IsNext trace progress lines whole (Refused text) world
 next_is_too_long trace progress [] whole text world long is reads = absurd long
 next_is_too_long trace progress (line ∷ lines) whole text world long is reads = becomes_too_long trace progress line text world long is reads
 
 -- the next line is too long
-pub proceeds_too_long : (trace : Bool) (progress : Progress) (before after : ℕ) (old new : Option (List ℕ)) (text : List ℕ) (world : Option World)
+pub proceeds_too_long : (trace : Bool) (progress : Progress) (before after : ℕ) (old new : Option (List ℕ)) (text : List ℕ) (world : Option ViewedWorld)
     → IfSome old (λ bytes. BeginsTooLong (lines_left before bytes)) → text ≡ codes "LineTooLong" → Reads progress world
     → Proceeds trace progress before old after new (Refused text) world
 proceeds_too_long trace progress before after None new text world long is reads = tt
@@ -41,7 +41,7 @@ proceeds_too_long trace progress before after (Some old) new text world long is 
     (next_is_too_long trace progress (lines_left before old) (nat_lt (length old) before) text world long is reads, tt)
 
 -- no line is left
-pub proceeds_to_end : (trace : Bool) (progress : Progress) (before after : ℕ) (old new : Option (List ℕ)) (whole : Bool) (text : List ℕ) (world : Option World)
+pub proceeds_to_end : (trace : Bool) (progress : Progress) (before after : ℕ) (old new : Option (List ℕ)) (whole : Bool) (text : List ℕ) (world : Option ViewedWorld)
     → IfSome old (λ bytes. (lines_left before bytes ≡ []) × (whole ≡ nat_lt (length bytes) before)) → text ≡ unended_text whole → Reads progress world
     → Proceeds trace progress before old after new (Refused text) world
 proceeds_to_end trace progress before after None new whole text world none is reads = tt

@@ -5,28 +5,31 @@ use Rattle.recording_lines.specs.Lines.{recorded_lines}
 use Rattle.room_model.specs.Schemas.{Schemas}
 use Rattle.room_model.specs.Replicas.{Client, others}
 use Rattle.room_model.specs.Worlds.{World, map_val}
+use Rattle.rec_format.specs.declared.printed.PrintedLine.{PrintedLine}
+use Rattle.rec_format.specs.declared.printed.PrintedLine.TheVariants as printed
+use Rattle.rec_format.specs.declared.recorded.RecordedEvent.TheVariants as recorded
 use Rattle.room_model.specs.declared.event.Event.TheVariants as event
-use Rattle.room_model.specs.declared.line.OutLine.{OutLine}
 use Rattle.room_model.specs.declared.line.OutLine.TheVariants as line
 use Rattle.side_effects.specs.declared.fault.EditFault.{EditFault}
 use Rattle.sync_world.specs.CaughtUp.{HasCaughtUp, IsOfRoom}
+use Rattle.world_views.specs.Views.{Viewed}
 use Rattle.rooms.specs.Taking.{Progress, passed, Takes, Happens}
 
 -- lines lead from one progress to another: none is refused or ends the recording
 abbrev pub Leads : Bool → Progress → List (List ℕ) → Progress → Type 0
 Leads trace progress [] last = progress ≡ last
-Leads trace progress (line ∷ lines) last = (out : List OutLine) × (next : Progress) × Takes trace progress line (passed out next) × Leads trace next lines last
+Leads trace progress (line ∷ lines) last = (out : List PrintedLine) × (next : Progress) × Takes trace progress line (passed out next) × Leads trace next lines last
 
--- what is printed is one line, by which the client shows the room's document, seen at its version
-abbrev pub ShowsTheRoom : Schemas EditFault → World → ℕ → Client → List OutLine → Type 0
+-- what is printed is one line, by which the client shows the room's document, seen at its version; nobody has a view to tell
+abbrev pub ShowsTheRoom : Schemas EditFault → World → ℕ → Client → List PrintedLine → Type 0
 ShowsTheRoom schemas world number client out =
     (document : Pairs) × IsOfRoom schemas world client document
-    × (out ≡ line.Show number client.reached (map_val document) (map_val (others schemas world.room.history client)) (length client.pending) ∷ [])
+    × (out ≡ printed.World (line.Show number client.reached (map_val document) (map_val (others schemas world.room.history client)) (length client.pending)) ∷ [])
 
 -- in each world to which the first lines of a recording lead, a client that has caught up shows the room's document
 abbrev pub CaughtUpPrintTheRoom : Bool → List ℕ → Type 0
 CaughtUpPrintTheRoom trace recording =
-    (first rest : List (List ℕ)) (schemas : Schemas EditFault) (world : World) (number : ℕ) (client : Client) (out : List OutLine) (next : Progress)
-    → recorded_lines recording ≡ first ++ rest → Leads trace None first (Some (schemas, world))
-    → slice_get world.clients number ≡ Some client → HasCaughtUp world client
-    → Happens trace schemas world (event.Show number) (passed out next) → ShowsTheRoom schemas world number client out
+    (first rest : List (List ℕ)) (schemas : Schemas EditFault) (viewed : Viewed) (number : ℕ) (client : Client) (out : List PrintedLine) (next : Progress)
+    → recorded_lines recording ≡ first ++ rest → Leads trace None first (Some (schemas, viewed))
+    → slice_get viewed.world.clients number ≡ Some client → HasCaughtUp viewed.world client
+    → Happens trace schemas viewed (recorded.World (event.Show number)) (passed out next) → ShowsTheRoom schemas viewed.world number client out

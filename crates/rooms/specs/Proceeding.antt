@@ -6,10 +6,10 @@ use Rattle.rooms.specs.Taking.{Progress}
 use Rattle.rooms.specs.Texts.{unended_text}
 use Rattle.rooms.specs.declared.replay.Reply.{Reply}
 use Rattle.rooms.specs.declared.replay.Reply.TheVariants.{Refused, Wrote, Ended}
-use Rattle.sync_world.specs.declared.world.World.{World}
+use Rattle.world_views.specs.declared.viewed.ViewedWorld.{ViewedWorld}
 
 -- the reply tells what becomes of the first line; where there is none, why the recording without an `end` line is refused
-abbrev pub IsNext : Bool → Progress → List (List ℕ) → Bool → Reply → Option World → Type 0
+abbrev pub IsNext : Bool → Progress → List (List ℕ) → Bool → Reply → Option ViewedWorld → Type 0
 IsNext trace progress [] whole (Refused text) world = (text ≡ unended_text whole) × Reads progress world
 IsNext trace progress [] whole (Wrote lines) world = ⊥
 IsNext trace progress [] whole (Ended lines) world = ⊥
@@ -24,7 +24,7 @@ IsStillToCome (Refused text) before old after new = ⊤
 IsStillToCome (Ended lines) before old after new = ⊤
 
 -- both, where the source tells what is to come; of each it is said first how many bytes of it may be looked at
-abbrev pub Proceeds : Bool → Progress → ℕ → Option (List ℕ) → ℕ → Option (List ℕ) → Reply → Option World → Type 0
+abbrev pub Proceeds : Bool → Progress → ℕ → Option (List ℕ) → ℕ → Option (List ℕ) → Reply → Option ViewedWorld → Type 0
 Proceeds trace progress before None after new reply world = ⊤
 Proceeds trace progress before (Some old) after new reply world =
     IsNext trace progress (lines_left before old) (nat_lt (length old) before) reply world × IsStillToCome reply before old after new

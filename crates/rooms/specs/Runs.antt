@@ -13,7 +13,7 @@ use Rattle.rooms.specs.declared.play.End.{End}
 use Rattle.rooms.specs.declared.play.End.TheVariants.{Done, Refused}
 use Rattle.rooms.specs.declared.play.Stop.{Stop}
 use Rattle.rooms.specs.declared.play.Stop.TheVariants.{SourceFailed, SinkFailed, OutOfMemory}
-use Rattle.sync_world.specs.declared.world.World.{World}
+use Rattle.world_views.specs.declared.viewed.ViewedWorld.{ViewedWorld}
 
 -- the status with which a replay ends
 abbrev pub status_code : Result End Stop → ℕ
@@ -41,7 +41,7 @@ status_of w = if w.is_ended then 0 else 3
 
 -- where the source tells the recording that it held: what the recording writes stands in the sink behind what that held, and the status is
 -- the recording's; the world stands for the one that the recording leads to
-abbrev pub WritesAll : Bool → Option (List ℕ) → ℕ → Option World → Option (List ℕ) → Option (List ℕ) → Type 0
+abbrev pub WritesAll : Bool → Option (List ℕ) → ℕ → Option ViewedWorld → Option (List ℕ) → Option (List ℕ) → Type 0
 WritesAll trace None status world old new = ⊤
 WritesAll trace (Some recording) status world old new =
     (w : Written) × Replays trace recording w × (status ≡ status_of w) × Reads w.reached world × Extends old new w.text
@@ -57,7 +57,7 @@ PrintsFront trace None old new = ⊤
 PrintsFront trace (Some recording) old new = (front : List ℕ) × ReplaysFront trace recording front × Extends old new front
 
 -- how a recording that is taken line by line leaves sink and world
-abbrev pub Leaves : Bool → Option (List ℕ) → Result End Stop → Option World → Option (List ℕ) → Option (List ℕ) → Type 0
+abbrev pub Leaves : Bool → Option (List ℕ) → Result End Stop → Option ViewedWorld → Option (List ℕ) → Option (List ℕ) → Type 0
 Leaves trace left (Ok end) world old new = WritesAll trace left (status_code (Ok end)) world old new
 Leaves trace left (Err stop) world old new = PrintsFront trace left old new
 

@@ -2,18 +2,19 @@
 use Rattle.std.specs.Prelude.{ℕ, List, [], ◌∷◌, ◌++◌, Bool, codes, if◌then◌else◌}
 use Rattle.rooms_val.specs.Data.{map, members_of}
 use Rattle.rooms_val.specs.Json.{text_of}
-use Rattle.rec_format.specs.Outs.{line_text, fault_fields}
+use Rattle.rec_format.specs.Outs.{fault_fields}
+use Rattle.rec_format.specs.Printed.{printed_text}
+use Rattle.rec_format.specs.declared.printed.PrintedLine.{PrintedLine}
 use Rattle.recording_lines.specs.Lines.{newline}
-use Rattle.room_model.specs.declared.line.OutLine.{OutLine}
 
 -- the text of a line, with its newline
 abbrev pub written_line : List ℕ → List ℕ
 written_line text = text ++ newline ∷ []
 
 -- the text of printed lines
-abbrev pub lines_text : List OutLine → List ℕ
+abbrev pub lines_text : List PrintedLine → List ℕ
 lines_text [] = []
-lines_text (line ∷ lines) = written_line (line_text line) ++ lines_text lines
+lines_text (line ∷ lines) = written_line (printed_text line) ++ lines_text lines
 
 -- where a recording is refused, by the number of the line, and why
 abbrev pub fault_line : ℕ → List ℕ → List ℕ

@@ -2,9 +2,10 @@
 //!
 //! `run` is the top call; its clauses say what is written, and when each status comes. A recording's
 //! lines are read one by one (`recording_lines`) and taken (`replay`): as the header, or as an event
-//! of `rec_format` that happens in a `World` of `sync_world`. What a line prints is written (`play`,
-//! `texts`, `writing`) before the source is read on. What a recording writes is defined in `specs/`. A
-//! made recording's events come from `load_maker`, and happen in such a world too (`make`, `making`).
+//! of `rec_format` that happens in a `ViewedWorld` of `world_views`. What a line prints is written
+//! (`play`, `texts`, `writing`) before the source is read on. What a recording writes is defined in
+//! `specs/`. A made recording's events come from `load_maker`; nobody watches in it, and they happen in
+//! a `World` of `sync_world` (`make`, `making`).
 #![tactic(auto)]
 
 mod job;

@@ -24,7 +24,7 @@ use room_link::source::Source;
 use rooms_val::{Mem, OutOfMemory, Steps, Text};
 use std::alloc::{AllocError, Global};
 use std::sync::ledger::Ledger;
-use sync_world::World;
+use world_views::ViewedWorld;
 
 /// How a recording ends.
 #[derive(Clone, Copy, Debug, PartialEq, Eq)]
@@ -88,16 +88,17 @@ impl From<ReadFault> for Stop {
 pub struct Replayed {
     /// The status: 0, 3, 4, 5 or 6.
     pub status: u8,
-    /// The world after the events that were taken; there on status 0 or 3, where the header was
-    /// read.
-    pub world: Option<World>,
+    /// The world after the events that were taken, with what its clients watch; there on status 0 or
+    /// 3, where the header was read.
+    pub world: Option<ViewedWorld>,
 }
 
 /// Replays the recording that the source holds, of which it looks at 2^30 bytes at most, and writes
-/// what it prints; with `trace` the messages too. Each event happens before the source is read on.
-/// The status is 0 where the recording was read to its `end` line, 3 where it is refused, 4 where a
-/// read failed, 5 where a write failed, and 6 where memory was refused. It costs the recording and
-/// its events, and the memory of its world, one line and a buffer of 65,536 bytes.
+/// what it prints: what its clients show, the views that they watch, as these change, and what their
+/// queries find; with `trace` the messages too. Each event happens before the source is read on. The
+/// status is 0 where the recording was read to its `end` line, 3 where it is refused, 4 where a read
+/// failed, 5 where a write failed, and 6 where memory was refused. It costs the recording and its
+/// events, and the memory of its world, one line and a buffer of 65,536 bytes.
 pub fn replay_job<S: Source, K: Sink, L: Ledger>(
     alloc: Global,
     trace: bool,
@@ -117,7 +118,7 @@ pub fn replay_job<S: Source, K: Sink, L: Ledger>(
     ensures stopped { (result.status ≡ 4) ⊎ (result.status ≡ 5) ⊎ (result.status ≡ 6)
         → PrintsFront trace (S.left source.old) (K.held sink.old) (K.held sink.new) }
     // In the world that is answered, each client that has caught up with the room shows its document.
-    ensures caught_up { IfSome result.world CaughtUpShowTheRoom }
+    ensures caught_up { IfSome result.world (λ viewed. CaughtUpShowTheRoom viewed.world) }
 
     // So does each such client in what is printed on the way, wherever it is asked.
     ensures shown { IfSome (S.left source.old) (CaughtUpPrintTheRoom trace) }

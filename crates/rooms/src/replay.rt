@@ -1,21 +1,20 @@
 //! A recording that is taken line by line.
 ghost use Rattle.std.specs.Prelude.{◌≡◌, None, Some, IfOk};
 ghost use Rattle.room_model.specs.Schemas.{Schemas};
-ghost use Rattle.room_model.specs.Worlds as model;
 ghost use Rattle.side_effects.specs.declared.fault.EditFault.{EditFault};
-ghost use Rattle.sync_world.specs.Playing.{IsPlayed};
-ghost use Rattle.sync_world.specs.Standing.{Stands};
+ghost use Rattle.world_views.specs.Standing.{Stands, IsPlayable};
+ghost use Rattle.world_views.specs.Views.{Viewed};
 ghost use Rattle.rooms.specs.Taking.{Progress, is_end, is_passed_by};
 ghost use Rattle.rooms.specs.Replies.{Reads, Becomes, BecomesHeader, BecomesEvent, BecomesOf};
 
 use fault_texts::{line_fault_text, step_fault_text};
 use rec_format::read::LONGEST_LINE;
-use rec_format::{Event, OutLine, read_header, read_line};
+use rec_format::{Event, PrintedLine, RecordedEvent, read_header, read_line};
 use recording_lines::lines::is_blank;
 use rooms_val::{Mem, Steps, Text};
 use std::alloc::Global;
 use std::sync::ledger::Ledger;
-use sync_world::World;
+use world_views::ViewedWorld;
 
 /// What a line makes of a recording.
 #[derive(Drop)]
@@ -23,9 +22,9 @@ pub enum Reply {
     /// The line is refused, for the cause that this text names.
     Refused(Text),
     /// The line prints these lines.
-    Wrote(Vec<OutLine>),
+    Wrote(Vec<PrintedLine>),
     /// The line prints these lines, and the recording ends with it.
-    Ended(Vec<OutLine>),
+    Ended(Vec<PrintedLine>),
 }
 
 /// How far a recording was read.
@@ -33,8 +32,9 @@ pub enum Reply {
 pub struct Replay {
     // Whether the messages are printed too.
     trace: bool,
-    // The world of the header and of the events since; none before the header.
-    pub(crate) world: Option<World>,
+    // The world of the header and of the events since, with what its clients watch; none before the
+    // header.
+    pub(crate) world: Option<ViewedWorld>,
 }
 
 impl Replay {
@@ -75,7 +75,7 @@ impl Replay {
     {
         match read_header(alloc, line) {
             Ok(header) => {
-                self.world = Some(World::new(alloc, header.version)?);
+                self.world = Some(ViewedWorld::new(alloc, header.version)?);
                 Ok(Reply::Wrote(Vec::new(alloc)))
             }
             Err(fault) => Ok(Reply::Refused(line_fault_text(alloc, fault)?)),
@@ -92,15 +92,15 @@ fn is_passed_by(line: &[u8]) -> bool
 
 // Takes a line behind the header.
 fn take_event<L: Ledger>(
-    world: &mut World,
+    world: &mut ViewedWorld,
     alloc: Global,
     trace: bool,
     line: &[u8],
     steps: &mut Steps<L>,
 ) -> Mem<Reply>
-    ensures { IfOk result (λ reply. (schemas : Schemas EditFault) (model : model.World)
-        → Stands schemas model world.old
-        → BecomesEvent trace schemas model line.now reply (Some world.new)) }
+    ensures { IfOk result (λ reply. (schemas : Schemas EditFault) (viewed : Viewed)
+        → Stands schemas viewed world.old
+        → BecomesEvent trace schemas viewed line.now reply (Some world.new)) }
 {
     match read_line(alloc, line) {
         Ok(event) => happen(world, alloc, trace, event, steps),
@@ -110,16 +110,16 @@ fn take_event<L: Ledger>(
 
 // Lets an event happen in the world.
 fn happen<L: Ledger>(
-    world: &mut World,
+    world: &mut ViewedWorld,
     alloc: Global,
     trace: bool,
-    event: Event,
+    event: RecordedEvent,
     steps: &mut Steps<L>,
 ) -> Mem<Reply>
-    requires { IsPlayed event }
-    ensures { IfOk result (λ reply. (schemas : Schemas EditFault) (model : model.World)
-        → Stands schemas model world.old
-        → BecomesOf trace schemas model event reply (Some world.new)) }
+    requires { IsPlayable event }
+    ensures { IfOk result (λ reply. (schemas : Schemas EditFault) (viewed : Viewed)
+        → Stands schemas viewed world.old
+        → BecomesOf trace schemas viewed event reply (Some world.new)) }
 {
     let ends = is_end(&event);
     match world.step(alloc, event, trace, steps) {
@@ -133,8 +133,11 @@ fn happen<L: Ledger>(
 }
 
 // Whether an event ends the recording.
-fn is_end(event: &Event) -> bool
+fn is_end(event: &RecordedEvent) -> bool
     ensures { result ≡ is_end event.now }
 {
-    matches!(event, Event::End)
+    match event {
+        RecordedEvent::World(event) => matches!(event, Event::End),
+        _ => false,
+    }
 }

@@ -20,7 +20,8 @@ pub const USAGE: u8 = 2;
 /// Does what the words ask for, without the program's name, and returns the status with which the
 /// program ends: 0 where the job is done, 2 where the words ask for none, 3 where the recording is
 /// refused, 4 where the source failed, 5 where the sink failed, 6 where memory was refused. It costs
-/// what the job does.
+/// what the job does. What a recording writes has a line for each view that a client watches, whenever
+/// the view changes.
 pub fn run<S: Source, K: Sink, L: Ledger>(
     alloc: Global,
     words: &[String],

@@ -25,7 +25,9 @@ H; [[[[[[[[[[[[[[[[[[[[[[[[[[[[[[[[[[[[[[[[[[[[[[[[[[[[[[[[[[[[[[[[[]]]]]]]]]]]]
 H; {"do":"sh | {"at":2,"fault":"BadJson"} | 3
 H; H | {"at":2,"fault":"Field"} | 3
 H; {"do":"fly"} | {"at":2,"fault":"UnknownEvent"} | 3
-H; {"client":0,"do":"watch"} | {"at":2,"fault":"UnknownEvent"} | 3
+H; {"client":0,"do":"watch"} | {"at":2,"fault":"Field"} | 3
+H; C; FRAMED; {"client":0,"do":"watch","view":{"box":"shape:f"}}; {"client":0,"diff":{"shape:a":["patch",{"parentId":["put","page:p"]}]},"do":"edit"}; {"client":0,"diff":{"shape:a":["patch",{"x":["put",5]}]},"do":"edit"}; END | {"client":0,"told":{"h":50,"w":210,"x":10,"y":0},"watch":0}; {"client":0,"told":{"h":50,"w":100,"x":10,"y":0},"watch":0}; ENDED | 0
+H; C; COUNT; PUT; {"client":0,"do":"query","type":"page","where":["eq","name","P"]}; COUNT; {"client":1,"do":"query","type":"page","where":["and",[]]} | {"client":0,"told":0,"watch":0}; {"client":0,"ids":["page:p"],"query":true}; {"client":0,"told":0,"watch":1}; {"at":7,"fault":"NoSuchClient"} | 3
 H; SHOW | {"at":2,"fault":"NoSuchClient"} | 3
 H; HANDLE | {"at":2,"fault":"NoSuchSession"} | 3
 H; C; CONNECT; SEND | {"at":4,"fault":"NothingThere"} | 3
@@ -58,6 +60,10 @@ fn line(name: &str) -> &str {
         "DELIVER" => r#"{"client":0,"do":"deliver"}"#,
         "LOSE" => r#"{"do":"lose","session":0}"#,
         "PUT" => r#"{"client":0,"diff":{"page:p":["put",PAGE]},"do":"edit"}"#,
+        "COUNT" => r#"{"client":0,"do":"watch","view":{"count":"page:p"}}"#,
+        // A page with a frame at x 10, and a shape in it that begins 200 behind the frame's left edge.
+        "FRAMED" =>
+            r#"{"client":0,"diff":{"page:p":["put",PAGE],"shape:a":["put",{"id":"shape:a","index":"a0","isLocked":false,"meta":{},"opacity":100,"parentId":"shape:f","props":{"color":"black","dash":"draw","fill":"none","geo":"rectangle","h":10,"size":"m","text":"","w":10},"rotation":0,"type":"geo","typeName":"shape","x":200,"y":0}],"shape:f":["put",{"id":"shape:f","index":"a0","isLocked":false,"meta":{},"opacity":100,"parentId":"page:p","props":{"h":50,"name":"F","w":100},"rotation":0,"type":"frame","typeName":"shape","x":10,"y":0}]},"do":"edit"}"#,
         "NEW" => r#"{"clock":-1,"doc":{},"others":{},"owed":0,"show":0}"#,
         "ENDED" => r#"{"clock":0,"doc":{},"end":true,"presence":{}}"#,
         _ => name,
@@ -210,43 +216,105 @@ fn refuses_a_line_that_is_too_long(rt: HostRuntime) -> Result<(), Fail> {
     )
 }
 
-// So many edits of one of the pages, each handled, sent and delivered.
-fn many_edits(alloc: Global, pages: u32, edits: u32) -> Result<String, Fail> {
-    let mut text = lines(alloc, "H; C; OPEN")?;
-    text.push_str("{\"client\":0,\"diff\":{")?;
-    for page in 0..pages {
-        text.push_str(if page == 0 { "" } else { "," })?;
+// The n-th of the keys that come one behind the other, from 0: `a0` to `az`, then `b00` on.
+fn nth_key(alloc: Global, n: usize) -> Result<String, Fail> {
+    let mut key = String::from_str(alloc, if n < 62 { "a" } else { "b" })?;
+    if 62 <= n {
+        key.push(digit((n - 62) / 62))?;
+        key.push(digit((n - 62) % 62))?;
+    } else {
+        key.push(digit(n))?;
+    }
+    Ok(key)
+}
+
+// A digit of keys, by its value below 62.
+fn digit(value: usize) -> char {
+    "0123456789ABCDEFGHIJKLMNOPQRSTUVWXYZabcdefghijklmnopqrstuvwxyz"
+        .chars()
+        .nth(value)
+        .unwrap_or('0')
+}
+
+// The id of the n-th of 100 shapes.
+fn nth_id(alloc: Global, n: usize) -> Result<String, Fail> {
+    Ok(format!(in alloc; "shape:g{}{}", n / 10, n % 10)?)
+}
+
+// The n-th of 100 geo shapes, with this x, and with this text of its index, which may be empty.
+fn nth_shape(alloc: Global, n: usize, index: &str, x: u32) -> Result<String, Fail> {
+    let id = nth_id(alloc, n)?;
+    Ok(format!(in alloc;
+        r#"{{"id":"{}",{index}"isLocked":false,"meta":{{}},"opacity":100,"parentId":"page:p","props":{{"color":"black","dash":"draw","fill":"none","geo":"rectangle","h":10,"size":"m","text":"","w":10}},"rotation":0,"type":"geo","typeName":"shape","x":{x},"y":0}}"#,
+        id.as_str()
+    )?)
+}
+
+// A client that counts the shapes of a page puts it with 100 shapes, and moves the first of them so many times; each edit is
+// handled, sent and delivered.
+fn many_moves(alloc: Global, moves: u32) -> Result<String, Fail> {
+    let mut text = lines(alloc, "H; C; COUNT; OPEN")?;
+    text.push_str(
+        lines(alloc, r#"{"client":0,"diff":{"page:p":["put",PAGE]"#)?
+            .as_str()
+            .trim_end(),
+    )?;
+    for n in 0..100usize {
+        let id = nth_id(alloc, n)?;
+        let shape = nth_shape(alloc, n, "", 0)?;
         text.push_str(format!(in alloc;
-            "\"page:{page}\":[\"put\",{{\"id\":\"page:{page}\",\"index\":\"a0\",\"meta\":{{}},\"name\":\"\",\"typeName\":\"page\"}}]"
+            r#","{}":["put",{}]"#,
+            id.as_str(),
+            shape.as_str()
         )?.as_str())?;
     }
     text.push_str("},\"do\":\"edit\"}\n")?;
-    text.push_str(lines(alloc, "HANDLE; SEND; DELIVER")?.as_str())?;
     let sync = lines(alloc, "HANDLE; SEND; DELIVER")?;
-    for edit in 0..edits {
+    text.push_str(sync.as_str())?;
+    for x in 1..=moves {
         text.push_str(format!(in alloc;
-            "{{\"client\":0,\"diff\":{{\"page:7\":[\"patch\",{{\"name\":[\"put\",\"{edit}\"]}}]}},\"do\":\"edit\"}}\n"
+            "{{\"client\":0,\"diff\":{{\"shape:g00\":[\"patch\",{{\"x\":[\"put\",{x}]}}]}},\"do\":\"edit\"}}\n"
         )?.as_str())?;
         text.push_str(sync.as_str())?;
     }
-    text.push_str("{\"client\":0,\"diff\":{\"page:7\":[\"patch\",{}]},\"do\":\"fly\"}\n")?;
+    text.push_str(lines(alloc, "END")?.as_str())?;
+    Ok(text)
+}
+
+// What that writes: the counts, and the room at the end, whose clock is one more than the moves. Each shape has the next key.
+fn moved(alloc: Global, moves: u32) -> Result<String, Fail> {
+    let mut text = lines(
+        alloc,
+        r#"{"client":0,"told":0,"watch":0}; {"client":0,"told":100,"watch":0}"#,
+    )?;
+    let clock = u64::from(moves) + 1;
+    text.push_str(format!(in alloc; "{{\"clock\":{clock},\"doc\":")?.as_str())?;
+    text.push_str(lines(alloc, r#"{"page:p":PAGE"#)?.as_str().trim_end())?;
+    for n in 0..100usize {
+        let id = nth_id(alloc, n)?;
+        let key = nth_key(alloc, n)?;
+        let index = format!(in alloc; "\"index\":\"{}\",", key.as_str())?;
+        let shape = nth_shape(alloc, n, index.as_str(), if n == 0 { moves } else { 0 })?;
+        text.push_str(format!(in alloc; ",\"{}\":{}", id.as_str(), shape.as_str())?.as_str())?;
+    }
+    text.push_str("},\"end\":true,\"presence\":{}}\n")?;
     Ok(text)
 }
 
 // A body that goes over the events before at each event doesn't end in a test's time.
 #[test]
-fn replays_twenty_thousand_edits(rt: HostRuntime) -> Result<(), Fail> {
+fn replays_twenty_thousand_moves(rt: HostRuntime) -> Result<(), Fail> {
     let alloc = rt.alloc();
-    let recording = many_edits(alloc, 100, 20_000)?;
-    let fault = lines(alloc, r#"{"at":80011,"fault":"UnknownEvent"}"#)?;
+    let recording = many_moves(alloc, 20_000)?;
+    let written = moved(alloc, 20_000)?;
     replays(
         &rt,
         alloc,
         "replay",
         recording.as_str(),
         65_536,
-        fault.as_str(),
-        3,
+        written.as_str(),
+        0,
     )
 }
 

@@ -13,8 +13,8 @@ const USAGE_LINE: &str = "usage: rooms replay [--trace] / make SEED SIZE [--prin
 pub(crate) const HELP: &str = "\
 usage: rooms replay [--trace] / make SEED SIZE [--print]
 
-  replay                   replays the recording on standard input, as it comes: prints what its clients show, and what
-                           the room holds at its end
+  replay                   replays the recording on standard input, as it comes: prints what its clients show and watch,
+                           and what the room holds at its end
   replay --trace           prints the messages between the clients and the room too
   make SEED SIZE           makes a recording of SIZE draws, 1 to 100,000, by a seed below 2^64, and prints a line: what
                            the room holds at its end, and how many events were taken and left out

@@ -7,7 +7,7 @@ ghost use Rattle.rooms.specs.declared.play.Stop.TheVariants as stop;
 
 use crate::play::Stop;
 use crate::texts::written_line;
-use rec_format::OutLine;
+use rec_format::PrintedLine;
 use room_link::Failed;
 use room_link::sink::Sink;
 use std::alloc::Global;
@@ -39,7 +39,7 @@ pub fn write_all<K: Sink>(sink: &mut K, bytes: &[u8]) -> Result<(), Failed>
 pub(crate) fn write_lines<K: Sink>(
     alloc: Global,
     sink: &mut K,
-    lines: &[OutLine],
+    lines: &[PrintedLine],
 ) -> Result<(), Stop>
     ensures ok { OnOk result (Extends (K.held sink.old) (K.held sink.new) (lines_text lines.now)) }
     ensures err { OnErr result ((front : List ℕ) × IsFront front (lines_text lines.now)

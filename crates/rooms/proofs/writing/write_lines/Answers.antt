@@ -2,7 +2,7 @@ use Rattle.std.proofs.Common.{◌≡◌, ◌++◌, take, subst, sym, ◌∙◌, 
 use Rattle.std.proofs.lemmas.Result.{err_from_is_err_and}
 use Rattle.room_link.specs.Held.{Extends}
 use Rattle.room_link.proofs.HeldLemmas.{Extends-trans}
-use Rattle.rec_format.specs.Outs.{line_text}
+use Rattle.rec_format.specs.Printed.{printed_text}
 use Rattle.rooms.specs.Texts.{lines_text, written_line}
 use Rattle.rooms.proofs.WritingLemmas.{front_of_lines, front_more, text_more, first_bytes}
 use Rattle.rooms.proofs.writing.write_lines.Goals as goal
@@ -20,7 +20,7 @@ returns-in_err-write_all-clause-err g c =
     let lines = c.args.lines.now in
     let i = c.lines.line-index in
     let x = c.line-item.result in
-    let text = written_line (line_text x) in
+    let text = written_line (printed_text x) in
     let took = c.in_err-write_all.ensures.front in
     let is : c.deref.result.now ≡ text = c.deref.ensures.value ∙ c.in_ok-text.ensures in
     let front = take took.0 text in
@@ -37,7 +37,7 @@ lines-preserved g c =
     let lines = c.args.lines.now in
     let i = c.lines.line-index in
     let x = c.line-item.result in
-    let text = written_line (line_text x) in
+    let text = written_line (printed_text x) in
     let is : c.deref.result.now ≡ text = c.deref.ensures.value ∙ c.in_ok-text.ensures in
     record {
       written = subst (Extends (held c.args.sink.now) (held c.write_all.new.sink)) (sym (text_more lines i x c.lines-test.true c.line-item.is))
