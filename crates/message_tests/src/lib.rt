@@ -7,3 +7,5 @@ mod made;
 mod messages;
 #[cfg(test)]
 mod recordings;
+#[cfg(test)]
+mod views;

@@ -1,6 +1,7 @@
 //! The lines of recordings: headers, events and what is printed, by tables.
 use rec_format::{
-    Event, Header, LineFault, OutLine, print_event, print_out, read_header, read_line,
+    IdList, LineFault, OutLine, PrintedLine, RecordedEvent, print_line, print_out, print_recorded,
+    read_header, read_line,
 };
 use rooms_val::{Text, Val, ValFault};
 use std::alloc::Global;
@@ -33,6 +34,10 @@ const EVENTS: &str = r#"
 {"client":7,"do":"deliver"}
 {"client":8,"do":"cut"}
 {"do":"lose","session":9007199254740991}
+{"client":0,"do":"watch","view":{"box":"shape:a"}}
+{"client":63,"do":"watch","view":{"count":""}}
+{"client":0,"do":"query","type":"shape","where":["eq","x",0]}
+{"client":9,"do":"query","type":"","where":["not",["and",[["gt","x",-1],["or",[]]]]]}
 {"client":9007199254740991,"do":"show"}
 {"do":"end"}
 "#;
@@ -42,6 +47,8 @@ const WRITTEN_OTHERWISE: &str = r#"
 {"client":7,"do":"connect","readonly":true} |  { "readonly" :true, "do":"connect","client":7}
 {"do":"end"} | {"do":"show","do":"end"}
 {"client":0,"do":"mark","name":"e"} | {"name":"\u0065","do":"mark","client":0}
+{"client":1,"do":"watch","view":{"tree":"page:a"}} | {"view": {"tree":"page:\u0061"},"do":"watch","client":1}
+{"client":1,"do":"query","type":"page","where":["or",[]]} | {"where":[ "or" ,[ ]],"type":"page","do":"query","client":1}
 "#;
 
 /// Headers, each after its version.
@@ -65,8 +72,8 @@ UnknownEvent | {"do":""}
 UnknownEvent | {"do":"End"}
 UnknownEvent | {"do":"shown","client":0}
 UnknownEvent | {"client":-1,"do":"fly","x":[]}
-UnknownEvent | {"client":0,"do":"watch","view":{}}
-UnknownEvent | {"client":0,"do":"query","type":"shape","where":{}}
+UnknownEvent | {"client":0,"do":"watches","view":{"tree":"page:a"}}
+UnknownEvent | {"client":0,"do":"Query","type":"shape","where":["or",[]]}
 Field | {"recording":1,"version":3}
 Field | []
 Field | null
@@ -136,6 +143,23 @@ Field | {"client":0,"do":"deliver","session":0}
 Field | {"do":"cut"}
 Field | {"client":"","do":"cut"}
 Field | {"client":0,"do":"cut","session":0}
+Field | {"client":0,"do":"watch"}
+Field | {"do":"watch","view":{"tree":"page:a"}}
+Field | {"client":0,"do":"watch","view":{}}
+Field | {"client":0,"do":"watch","view":"page:a"}
+Field | {"client":-1,"do":"watch","view":{"tree":"page:a"}}
+Field | {"client":0,"do":"watch","tree":"page:a"}
+Field | {"client":0,"do":"watch","views":{"tree":"page:a"}}
+Field | {"client":0,"do":"watch","view":{"tree":"page:a"},"watch":0}
+Field | {"client":0,"do":"query"}
+Field | {"client":0,"do":"query","type":"shape"}
+Field | {"client":0,"do":"query","where":["or",[]]}
+Field | {"do":"query","type":"shape","where":["or",[]]}
+Field | {"client":0,"do":"query","type":null,"where":["or",[]]}
+Field | {"client":0,"do":"query","type":"shape","where":{}}
+Field | {"client":0,"do":"query","type":"shape","where":["or"]}
+Field | {"client":"0","do":"query","type":"shape","where":["or",[]]}
+Field | {"client":0,"do":"query","query":true,"type":"shape","where":["or",[]]}
 Field | {"do":"show"}
 Field | {"client":-1,"do":"show"}
 Field | {"client":0,"do":"show","end":true}
@@ -215,8 +239,8 @@ fn cells(row: &str) -> (&str, &str) {
 }
 
 /// The line of an event as it is printed.
-fn printed(alloc: Global, event: &Event) -> Result<String, Fail> {
-    Ok(String::from_utf8(print_event(alloc, event)?)?)
+fn printed(alloc: Global, event: &RecordedEvent) -> Result<String, Fail> {
+    Ok(String::from_utf8(print_recorded(alloc, event)?)?)
 }
 
 #[test]
@@ -446,4 +470,62 @@ fn prints_each_reason(rt: HostRuntime) -> Result<(), Fail> {
         slow,
         r#"{"end":"SLOW","to":5}"#,
     )
+}
+
+/// Asserts what a line of the world, a query or a watch is printed as.
+fn prints_line(
+    rt: &impl Abort,
+    alloc: Global,
+    line: &PrintedLine,
+    expected: &str,
+) -> Result<(), Fail> {
+    let text = String::from_utf8(print_line(alloc, line)?)?;
+    assert_eq!(rt; text.as_str(), expected);
+    Ok(())
+}
+
+#[test]
+fn prints_what_a_query_found(rt: HostRuntime) -> Result<(), Fail> {
+    let alloc = rt.alloc();
+    let none = PrintedLine::Ids {
+        client: 0,
+        ids: IdList::of(Vec::new(alloc)),
+    };
+    prints_line(&rt, alloc, &none, r#"{"client":0,"ids":[],"query":true}"#)?;
+    let ids = vec![in alloc; Text::of(alloc, "shape:b")?, Text::of(alloc, "shape:a")?]?;
+    let two = PrintedLine::Ids {
+        client: 7,
+        ids: IdList::of(ids),
+    };
+    prints_line(
+        &rt,
+        alloc,
+        &two,
+        r#"{"client":7,"ids":["shape:b","shape:a"],"query":true}"#,
+    )
+}
+
+#[test]
+fn prints_what_a_watch_tells(rt: HostRuntime) -> Result<(), Fail> {
+    let alloc = rt.alloc();
+    let told = PrintedLine::Told {
+        client: 1,
+        told: value(alloc, r#"{"h":2,"w":1,"x":-3,"y":0}"#)?,
+        watch: 63,
+    };
+    prints_line(
+        &rt,
+        alloc,
+        &told,
+        r#"{"client":1,"told":{"h":2,"w":1,"x":-3,"y":0},"watch":63}"#,
+    )
+}
+
+#[test]
+fn prints_a_line_of_the_world(rt: HostRuntime) -> Result<(), Fail> {
+    let undo = PrintedLine::World(OutLine::Undo {
+        client: 0,
+        done: true,
+    });
+    prints_line(&rt, rt.alloc(), &undo, r#"{"client":0,"undo":true}"#)
 }

@@ -7,6 +7,8 @@
 //! - `sync c s`: the room handles the first message of session s and sends what is next, which is delivered to client c;
 //! - `get c s`: the room sends session s what is next, which is delivered to client c;
 //! - `edit c d`: client c makes the edit of the diff d;
+//! - `watch c v`: client c watches the view v;
+//! - `query c t q`: client c asks for the records of type t that meet the query q;
 //! - `times n line`: the line, n times.
 //!
 //! An answer is the lines that are printed, parted by ` and `. Of a line that is refused it is the text of the fault; the

@@ -18,6 +18,8 @@ fn written(alloc: Global, step: &str) -> Result<String, Fail> {
         "sync" => sync(alloc, rest),
         "get" => get(alloc, rest),
         "edit" => edit(alloc, rest),
+        "watch" => watch(alloc, rest),
+        "query" => query(alloc, rest),
         "times" => times(alloc, rest),
         _ => Ok(String::from_str(alloc, step)?),
     }
@@ -60,6 +62,21 @@ fn get(alloc: Global, rest: &str) -> Result<String, Fail> {
 fn edit(alloc: Global, rest: &str) -> Result<String, Fail> {
     let (client, diff) = cut(rest);
     Ok(format!(in alloc; r#"{{"client":{client},"diff":{diff},"do":"edit"}}"#)?)
+}
+
+// A client watches a view.
+fn watch(alloc: Global, rest: &str) -> Result<String, Fail> {
+    let (client, view) = cut(rest);
+    Ok(format!(in alloc; r#"{{"client":{client},"do":"watch","view":{view}}}"#)?)
+}
+
+// A client asks for the records of a type that meet a query.
+fn query(alloc: Global, rest: &str) -> Result<String, Fail> {
+    let (client, asked) = cut(rest);
+    let (type_name, query) = cut(asked);
+    Ok(format!(in alloc;
+        r#"{{"client":{client},"do":"query","type":"{type_name}","where":{query}}}"#
+    )?)
 }
 
 // The same line so many times.

@@ -1,19 +1,19 @@
 //! The playing of scripts.
 ghost use Rattle.std.specs.Prelude.{◌≡◌, ◌<◌, true};
 ghost use Rattle.sync_world.specs.Playing.{IsPlayed};
+ghost use Rattle.world_views.specs.Standing.{IsPlayable};
 
 use crate::lines::lines_of;
 use board_tables::expanded;
 use case_tables::{cells, rows};
 use fault_texts::step_fault_text;
-use rec_format::{print_out, read_header, read_line};
-use room_model::{Event, OutLine};
+use rec_format::{Event, PrintedLine, RecordedEvent, print_line, read_header, read_line};
 use rooms_val::Steps;
 use std::alloc::Global;
 use std::marker::Brand;
 use std::sync::ledger::{Blank, Ledger};
 use std::test::Fail;
-use sync_world::World;
+use world_views::ViewedWorld;
 
 /// Plays scripts, one after the other, in the new world of a header. `None` if each answer is the one that stands there, else
 /// the first step with another answer, and both.
@@ -26,7 +26,7 @@ pub fn first_difference(
     scripts: &[&str],
 ) -> Result<Option<String>, Fail> {
     let header = read_header(alloc, header.as_bytes())?;
-    let mut world = World::new(alloc, header.version)?;
+    let mut world = ViewedWorld::new(alloc, header.version)?;
     for script in scripts {
         if let Some(difference) = difference_in(alloc, &mut world, script)? {
             return Ok(Some(difference));
@@ -36,7 +36,11 @@ pub fn first_difference(
 }
 
 // The first difference that playing a script in a world shows.
-fn difference_in(alloc: Global, world: &mut World, script: &str) -> Result<Option<String>, Fail> {
+fn difference_in(
+    alloc: Global,
+    world: &mut ViewedWorld,
+    script: &str,
+) -> Result<Option<String>, Fail> {
     for row in &rows(alloc, script)? {
         let [step, wanted, ..] = cells(row);
         if let Some(difference) = difference_at(alloc, world, step, wanted)? {
@@ -49,7 +53,7 @@ fn difference_in(alloc: Global, world: &mut World, script: &str) -> Result<Optio
 // How what a world answers to a step differs from what is wanted.
 fn difference_at(
     alloc: Global,
-    world: &mut World,
+    world: &mut ViewedWorld,
     step: &str,
     wanted: &str,
 ) -> Result<Option<String>, Fail> {
@@ -62,7 +66,7 @@ fn difference_at(
 }
 
 // What a world answers to the lines of a step.
-fn answer(alloc: Global, world: &mut World, step: &str) -> Result<String, Fail> {
+fn answer(alloc: Global, world: &mut ViewedWorld, step: &str) -> Result<String, Fail> {
     let lines = lines_of(alloc, step)?;
     let mut out = String::new(alloc);
     for line in lines.as_str().lines() {
@@ -82,15 +86,25 @@ fn add(out: &mut String, text: &str) -> Result<(), Fail> {
 }
 
 // What a world answers to a line. The steps are counted for nobody.
-fn line_answer(alloc: Global, world: &mut World, line: &str) -> Result<String, Fail> {
+fn line_answer(alloc: Global, world: &mut ViewedWorld, line: &str) -> Result<String, Fail> {
     let event = read_line(alloc, line.as_bytes())?;
-    if !is_played(&event) {
+    if !is_playable(&event) {
         return Err(Fail::from("no event that a world plays"));
     }
     stepped::<Brand>(Blank::new(1), alloc, world, event)
 }
 
-// Whether a world plays an event.
+// Whether a world plays an event of a recording.
+fn is_playable(event: &RecordedEvent) -> bool
+    ensures { result ≡ true → IsPlayable event.now }
+{
+    match event {
+        RecordedEvent::World(event) => is_played(event),
+        _ => true,
+    }
+}
+
+// The same of an event of the world itself.
 fn is_played(event: &Event) -> bool
     ensures { result ≡ true → IsPlayed event.now }
 {
@@ -103,13 +117,13 @@ fn is_played(event: &Event) -> bool
 fn stepped<L: Ledger>(
     blank: Blank,
     alloc: Global,
-    world: &mut World,
-    event: Event,
+    world: &mut ViewedWorld,
+    event: RecordedEvent,
 ) -> Result<String, Fail>
     requires name { blank.name ≡ L.name }
     requires parts { blank.parts ≡ L.parts }
     requires some { 0 < blank.parts }
-    requires played { IsPlayed event }
+    requires played { IsPlayable event }
 {
     let mut steps = Steps::<L>::new(blank);
     match world.step(alloc, event, false, &mut steps) {
@@ -122,10 +136,10 @@ fn stepped<L: Ledger>(
 }
 
 // The lines that are printed.
-fn lines_text(alloc: Global, lines: &[OutLine]) -> Result<String, Fail> {
+fn lines_text(alloc: Global, lines: &[PrintedLine]) -> Result<String, Fail> {
     let mut out = String::new(alloc);
     for line in lines {
-        let text = String::from_utf8(print_out(alloc, line)?)?;
+        let text = String::from_utf8(print_line(alloc, line)?)?;
         add(&mut out, text.as_str())?;
     }
     Ok(out)

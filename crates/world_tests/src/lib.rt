@@ -13,3 +13,5 @@ mod marks;
 mod played;
 #[cfg(test)]
 mod refusals;
+#[cfg(test)]
+mod views;
