@@ -16,10 +16,16 @@
 //!   how many bytes came together.
 //! - `compute` sets one of SIZE atoms of a `Graph` at each call, STEP further than that of the call before,
 //!   and asks for ten keys that hang on it. It comes to the sum of their values.
+//! - `views` moves one of SIZE shapes at each call, which stand in frames of 40 on a page, and has the watches of the page's
+//!   count and of the first frame's box tell what changed. It comes to how much they told.
+//! - `put` puts SIZE shapes on one page at each call, in one transaction of a new store. It comes to how many records there are.
+//! - `seek` asks at each call for those of SIZE shapes that have one x, with an index, and `walk` without. They come to how many
+//!   there were.
 //!
 //! The program prints its words, and what they come to.
 #![tactic(auto)]
 
+mod boards;
 mod clients;
 mod cutting;
 mod marks;
@@ -39,7 +45,7 @@ use std::{env, io};
 use touching::{Calls, copied, touched};
 
 const USAGE: &str =
-    "usage: part_bench touch|copy|push|take|make|read_data|print_data|marks|cut|compute SIZE CALLS STEP";
+    "usage: part_bench touch|copy|push|take|make|read_data|print_data|marks|cut|compute|views|put|seek|walk SIZE CALLS STEP";
 
 /// Which call is done many times.
 #[derive(Clone, Copy)]
@@ -54,6 +60,10 @@ enum Call {
     Marks,
     Cut,
     Compute,
+    Views,
+    Put,
+    Seek,
+    Walk,
 }
 
 impl Call {
@@ -70,6 +80,10 @@ impl Call {
             "marks" => Some(Call::Marks),
             "cut" => Some(Call::Cut),
             "compute" => Some(Call::Compute),
+            "views" => Some(Call::Views),
+            "put" => Some(Call::Put),
+            "seek" => Some(Call::Seek),
+            "walk" => Some(Call::Walk),
             _ => None,
         }
     }
@@ -87,6 +101,10 @@ impl Call {
             Call::Marks => "marks",
             Call::Cut => "cut",
             Call::Compute => "compute",
+            Call::Views => "views",
+            Call::Put => "put",
+            Call::Seek => "seek",
+            Call::Walk => "walk",
         }
     }
 
@@ -103,6 +121,10 @@ impl Call {
             Call::Marks => marks::kept(alloc, &made(alloc, size)?, calls),
             Call::Cut => cut(alloc, size, calls.count),
             Call::Compute => computed(alloc, size, calls),
+            Call::Views => boards::viewed(alloc, &made(alloc, size)?, calls),
+            Call::Put => boards::put(alloc, &made(alloc, size)?, calls.count),
+            Call::Seek => boards::sought(alloc, &made(alloc, size)?, calls),
+            Call::Walk => boards::walked(alloc, &made(alloc, size)?, calls),
         }
     }
 }
