@@ -2,10 +2,13 @@
 use Rattle.std.specs.Prelude.{ℕ, nat_le, nat_lt, ℤ, pos, negsuc, List, Bool, true, not, ◌&&◌, if◌then◌else◌, unwrap_or, Result, Ok, Err}
 use Rattle.std.specs.Option.{ok_or}
 use Rattle.std.specs.Str.{is_utf8}
+use Rattle.json.specs.Token.{Token}
+use Rattle.json.specs.Tree as tree
+use Rattle.json.specs.Tree.{json_tokens}
 use Rattle.serde_json.specs.Data as json
 use Rattle.serde_json.specs.Read.{read}
 use Rattle.serde_json.specs.Find.{of_integer, as_i64}
-use Rattle.serde_json.specs.Written.{has_float, compact_text}
+use Rattle.serde_json.specs.Written.{has_float, compact_text, outline, items_outline, members_outline}
 use Rattle.rooms_val.specs.Data.{Data, null, boolean, whole, text, list, map, Items, no_items, item, Members, no_members, member}
 use Rattle.rooms_val.specs.declared.fault.ValFault.{ValFault}
 use Rattle.rooms_val.specs.declared.fault.ValFault.TheVariants.{BadJson, NotWhole, OutOfRange, TooDeep}
@@ -102,6 +105,18 @@ checked_if_read (Ok j) = checked j
 -- what bytes are read as: a value, or the first fault by number
 abbrev pub value_of : List ℕ → Result Data ValFault
 value_of bytes = checked_if_read (json_at bytes)
+
+-- the tokens of a value's JSON
+abbrev pub tokens_of : Data → List Token
+tokens_of d = json_tokens (outline (json_of d))
+
+-- the same of some items, with the bracket that closes their list
+abbrev pub items_tokens : Items → List Token
+items_tokens ds = tree.items_tokens (items_outline (json_items ds))
+
+-- the same of some members, with the bracket that closes their map
+abbrev pub members_tokens : Members → List Token
+members_tokens ms = tree.members_tokens (members_outline (json_members ms))
 
 -- what a value is printed as: JSON with no blanks
 abbrev pub text_of : Data → List ℕ

@@ -1,5 +1,5 @@
 //! The keys of a map with their values.
-ghost use Rattle.std.specs.Prelude.{◌≡◌, ◌^◌, ◌-◌, min, [], ◌∷◌, length, IfOk, OnOk, OnErr, option_map, slice_get, IsTrue, ◌↔◌};
+ghost use Rattle.std.specs.Prelude.{◌≡◌, ◌^◌, ◌-◌, min, [], ◌∷◌, ◌++◌, length, IfOk, OnOk, OnErr, option_map, slice_get, IsTrue, ◌↔◌};
 ghost use Rattle.rooms_val.specs.Data.{members_of, IsSound, map};
 ghost use Rattle.rooms_val.specs.Maps.{value_at, with_key, without_key};
 ghost use Rattle.rooms_val.specs.View.{data_of, pairs_view};
@@ -8,7 +8,7 @@ use crate::entries;
 use crate::memory::Mem;
 use crate::text::Text;
 use crate::val::Val;
-use serde_json::{Map, Value};
+use json::Writer;
 use std::alloc::Global;
 use std::cmp::Ordering;
 use std::marker::Model;
@@ -50,10 +50,9 @@ impl Model for Fields {
 
 impl Fields {
     ghost use Rattle.rooms_val.specs.Kinds.{text_at, number_at};
-    ghost use Rattle.rooms_val.specs.Json.{json_members};
+    ghost use Rattle.rooms_val.specs.Json.{members_tokens};
     ghost use Rattle.rooms_val.specs.Order.{members_cmp};
     ghost use Rattle.rooms_val.specs.Weight.{members_weight};
-    ghost use Rattle.serde_json.specs.View.{members_view};
 
     /// The empty map.
     pub fn new(alloc: Global) -> Fields
@@ -63,6 +62,20 @@ impl Fields {
             alloc,
             entries: None,
         }
+    }
+
+    /// The map of these keys, which rise, with these values. It takes memory exactly if there are any.
+    pub(crate) fn from_vec(alloc: Global, entries: Vec<(Text, Val)>) -> Mem<Fields>
+        requires { IsSound (map (members_of (pairs_view entries.items))) }
+        ensures { IfOk result (λ fields. fields ≡ pairs_view entries.items) }
+    {
+        if entries.is_empty() {
+            return Ok(Fields::new(alloc));
+        }
+        Ok(Fields {
+            alloc,
+            entries: Some(Arc::new(alloc, entries)?),
+        })
     }
 
     /// How many keys it has.
@@ -243,20 +256,22 @@ impl Fields {
         }
     }
 
-    /// The JSON of the pairs.
-    #[cycle(to_json)]
-    pub(crate) fn to_json(&self, alloc: Global) -> Mem<Map<String, Value>>
-        ensures { IfOk result (λ json. members_view json.entries ≡ json_members (members_of self.now)) }
+    /// Writes the JSON of the pairs and the bracket that closes the map.
+    #[cycle(write)]
+    pub(crate) fn write_to(&self, out: &mut Writer) -> Mem<()>
+        ensures ok { OnOk result (out.new.tokens ≡ out.old.tokens ++ members_tokens (members_of self.now)) }
+        ensures before { out.new.before ≡ out.old.before }
     {
-        let mut json = Map::new(alloc);
         let Some(entries) = &self.entries else {
-            return Ok(json);
+            out.end_object()?;
+            return Ok(());
         };
         for (key, val) in &**entries {
-            let name = String::from_str(alloc, key.as_str())?;
-            drop(json.insert(name, val.to_json(alloc)?)?);
+            out.key(key.as_str())?;
+            val.write_to(out)?;
         }
-        Ok(json)
+        out.end_object()?;
+        Ok(())
     }
 }
 

@@ -2,14 +2,14 @@
 //!
 //! Contracts see a `Text` as its bytes, a `Vals` as a list of values and a `Fields` as pairs of a key and a value that
 //! rise by the key's bytes. A `Val` stands for a value `Data` by `data_of`. The crate stands on `serde_json`, whose
-//! definition of JSON decides which texts are values, and on nothing else.
+//! definition of JSON decides which texts are values, and on the writer of `json`.
 #![tactic(auto)]
 
 pub mod entries;
 pub mod fault;
 pub mod fields;
 mod from_json;
-mod json;
+mod json_text;
 pub mod memory;
 pub mod order;
 pub mod steps;

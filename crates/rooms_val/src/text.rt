@@ -1,5 +1,5 @@
 //! Text that a value owns, and that its copies share.
-ghost use Rattle.std.specs.Prelude.{◌≡◌, ◌≤◌, length, IfOk, IsUtf8};
+ghost use Rattle.std.specs.Prelude.{◌≡◌, ◌≤◌, length, IfOk, IsUtf8, string_bytes};
 
 use crate::memory::Mem;
 use std::alloc::Global;
@@ -101,6 +101,20 @@ impl Text {
         }
         Ok(Text {
             place: Place::There(ArcStr::from_str(alloc, text)?),
+        })
+    }
+
+    /// The text that a string is. A string of more than 22 bytes is moved.
+    pub(crate) fn from_string(text: String) -> Mem<Text>
+        ensures { IfOk result (λ t. t ≡ string_bytes text) }
+    {
+        if text.len() > MOST_SHORT {
+            return Ok(Text {
+                place: Place::There(ArcStr::from_string(text)?),
+            });
+        }
+        Ok(Text {
+            place: Place::Here(Short::of(text.as_str())),
         })
     }
 

@@ -1,11 +1,11 @@
 //! A JSON value.
-ghost use Rattle.std.specs.Prelude.{◌≡◌, ◌^◌, ◌-◌, min, IfOk, option_map};
+ghost use Rattle.std.specs.Prelude.{◌≡◌, ◌^◌, ◌-◌, ◌++◌, min, IfOk, OnOk, option_map};
 
 use crate::fields::Fields;
 use crate::memory::Mem;
 use crate::text::Text;
 use crate::vals::Vals;
-use serde_json::{Number, Value};
+use json::Writer;
 use std::alloc::Global;
 
 /// A JSON value whose numbers are whole.
@@ -40,10 +40,9 @@ pub enum Kind {
 impl Val {
     ghost use Rattle.rooms_val.specs.Data.{IsSound};
     ghost use Rattle.rooms_val.specs.Kinds.{as_text, as_whole, as_map, field};
-    ghost use Rattle.rooms_val.specs.Json.{json_of};
+    ghost use Rattle.rooms_val.specs.Json.{tokens_of};
     ghost use Rattle.rooms_val.specs.View.{data_of, kind_of};
     ghost use Rattle.rooms_val.specs.Weight.{weight};
-    ghost use Rattle.serde_json.specs.View.{view};
 
     /// Which form it has.
     pub fn kind(&self) -> Kind
@@ -135,18 +134,26 @@ impl Val {
         }
     }
 
-    /// The JSON of the value.
-    #[cycle(to_json)]
-    pub(crate) fn to_json(&self, alloc: Global) -> Mem<Value>
-        ensures { IfOk result (λ json. view json ≡ json_of (data_of self.now)) }
+    /// Writes the JSON of the value.
+    #[cycle(write)]
+    pub(crate) fn write_to(&self, out: &mut Writer) -> Mem<()>
+        ensures ok { OnOk result (out.new.tokens ≡ out.old.tokens ++ tokens_of (data_of self.now)) }
+        ensures before { out.new.before ≡ out.old.before }
     {
-        Ok(match self {
-            Val::Null => Value::Null,
-            Val::Bool(truth) => Value::Bool(*truth),
-            Val::Int(number) => Value::Number(Number::from(*number)),
-            Val::Text(text) => Value::String(String::from_str(alloc, text.as_str())?),
-            Val::List(items) => Value::Array(items.to_json(alloc)?),
-            Val::Map(fields) => Value::Object(fields.to_json(alloc)?),
-        })
+        match self {
+            Val::Null => out.null()?,
+            Val::Bool(truth) => out.boolean(*truth)?,
+            Val::Int(number) => out.i64(*number)?,
+            Val::Text(text) => out.string(text.as_str())?,
+            Val::List(items) => {
+                out.begin_array()?;
+                items.write_to(out)?;
+            }
+            Val::Map(fields) => {
+                out.begin_object()?;
+                fields.write_to(out)?;
+            }
+        }
+        Ok(())
     }
 }

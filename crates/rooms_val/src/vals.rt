@@ -5,7 +5,7 @@ ghost use Rattle.rooms_val.specs.View.{data_of, items_view};
 
 use crate::memory::Mem;
 use crate::val::Val;
-use serde_json::Value;
+use json::Writer;
 use std::alloc::Global;
 use std::cmp::Ordering;
 use std::marker::Model;
@@ -45,16 +45,29 @@ impl Model for Vals {
 }
 
 impl Vals {
-    ghost use Rattle.rooms_val.specs.Json.{json_items};
+    ghost use Rattle.rooms_val.specs.Json.{items_tokens};
     ghost use Rattle.rooms_val.specs.Order.{items_cmp};
     ghost use Rattle.rooms_val.specs.Weight.{items_weight};
-    ghost use Rattle.serde_json.specs.View.{items_view as json_view};
 
     /// The empty list.
     pub fn new(alloc: Global) -> Vals
         ensures { result ≡ [] }
     {
         Vals { alloc, items: None }
+    }
+
+    /// The list of these values. It takes memory exactly if there are any.
+    pub(crate) fn from_vec(alloc: Global, items: Vec<Val>) -> Mem<Vals>
+        requires { AreSoundItems (items_of (items_view items.items)) }
+        ensures { IfOk result (λ vals. vals ≡ items_view items.items) }
+    {
+        if items.is_empty() {
+            return Ok(Vals::new(alloc));
+        }
+        Ok(Vals {
+            alloc,
+            items: Some(Arc::new(alloc, items)?),
+        })
     }
 
     /// How many values it has.
@@ -180,19 +193,21 @@ impl Vals {
         }
     }
 
-    /// The JSON of the values.
-    #[cycle(to_json)]
-    pub(crate) fn to_json(&self, alloc: Global) -> Mem<Vec<Value>>
-        ensures { IfOk result (λ json. json_view json.items ≡ json_items (items_of self.now)) }
+    /// Writes the JSON of the values and the bracket that closes the list.
+    #[cycle(write)]
+    pub(crate) fn write_to(&self, out: &mut Writer) -> Mem<()>
+        ensures ok { OnOk result (out.new.tokens ≡ out.old.tokens ++ items_tokens (items_of self.now)) }
+        ensures before { out.new.before ≡ out.old.before }
     {
-        let mut json = Vec::with_capacity(alloc, self.len())?;
         let Some(items) = &self.items else {
-            return Ok(json);
+            out.end_array()?;
+            return Ok(());
         };
         for item in &**items {
-            json.push(item.to_json(alloc)?)?;
+            item.write_to(out)?;
         }
-        Ok(json)
+        out.end_array()?;
+        Ok(())
     }
 }
 

@@ -1,4 +1,5 @@
-//! Values as JSON: reading and printing them by `serde_json`, whose definition of JSON decides.
+//! Values as JSON: reading them by `serde_json`, whose definition of JSON decides, and printing them
+//! token by token.
 ghost use Rattle.std.specs.Prelude.{IfOk, IsTrue, ◌≤◌, ◌≡◌};
 ghost use Rattle.serde_json.specs.View.{view};
 ghost use Rattle.rooms_val.specs.Answers.{Gives};
@@ -10,6 +11,7 @@ use crate::from_json::val_of;
 use crate::memory::Mem;
 use crate::survey::Survey;
 use crate::val::Val;
+use json::Writer;
 use serde_json::Value;
 use std::alloc::Global;
 
@@ -38,7 +40,7 @@ impl Val {
         if !survey.is_shallow {
             return Err(ValFault::TooDeep);
         }
-        Ok(val_of(alloc, &json)?)
+        Ok(val_of(alloc, json)?)
     }
 
     /// The value as compact JSON, with the keys of every map rising by bytes.
@@ -48,8 +50,11 @@ impl Val {
         ensures reads_back { IfOk result (λ text. let d = data_of self.now in
             IsTrue (is_within (json_of d)) → depth d ≤ deepest → value_of text.items ≡ Ok d) }
     {
-        let json = self.to_json(alloc)?;
-        Ok(json.to_string(alloc)?.into_bytes())
+        // That the value is sound, its keys rising, is told by its kind.
+        let _ = self.kind();
+        let mut out = Writer::new(Vec::with_capacity(alloc, 128)?);
+        self.write_to(&mut out)?;
+        Ok(out.into_inner())
     }
 }
 
