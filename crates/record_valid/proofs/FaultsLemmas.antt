@@ -32,7 +32,7 @@ module _ (fault : Data → Option Reject) where
   items-end (v ∷ vs) zero past = absurd (omega arith)
   items-end (v ∷ vs) (suc i) past = items-end vs i (omega arith)
 
-table_of-rows_of : (rows : Table) → table_of (rows_of rows) ≡ rows
+pub table_of-rows_of : (rows : Table) → table_of (rows_of rows) ≡ rows
 table_of-rows_of [] = refl
 table_of-rows_of (e ∷ rows) = ap (λ rest. e ∷ rest) (table_of-rows_of rows)
 

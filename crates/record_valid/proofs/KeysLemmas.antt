@@ -1,13 +1,16 @@
 -- One pass over two lists of rising keys finds out whether one lacks a key of the other.
 use Rattle.std.proofs.Common.{◌≡◌, ℕ, suc, zero, ◌<◌, ◌≤◌, Bool, true, false, ◌||◌, not, cond, T, List, [], ◌∷◌, length, drop, get_or, Some, None, Less, is_eq, refl, sym, ap, subst, ◌∙◌, arith}
 use Rattle.std.specs.Option.{option_map_or}
+use Rattle.std.specs.Prelude.{nat_lt}
+use Rattle.std.specs.Ordering.{is_lt}
 use Rattle.std.specs.Str.{bytes_eq}
 use Rattle.std.specs.FinMap.Entries.{is_sorted, below_all}
+use Rattle.std.proofs.lemmas.Bool.{lt-ltb, le-ltb, ltb-true, ltb-false}
 use Rattle.std.proofs.lemmas.Cmp.{nat_list_cmp_total}
 use Rattle.std.proofs.lemmas.Map.Text.{is_eq-slice_cmp}
 use Rattle.std.proofs.lemmas.Slice.Eq.{bytes_eq-Decides}
 use Rattle.rooms_val.specs.Maps.{order, keys_of}
-use Rattle.rooms_val.proofs.MapsLemmas.{first, second, less}
+use Rattle.rooms_val.proofs.MapsLemmas.{first, second, both, less, ties_flip}
 use Rattle.record_valid.specs.Parts.{is_listed, lacks, behind}
 
 -- texts of which one is below the other are not the same
@@ -90,4 +93,71 @@ module _ {W G : Type 0} where
         | Some rest ↦ λ is.
             let at = hit gs w.0 rest is given in
             misses-lacks ws rest (second _ _ wanted) at.rises ∙ narrowed ws gs rest w.0 at (first _ _ wanted) ∙ sym (ap (λ b. not b || lacks (keys_of ws) (keys_of gs)) at.listed)
+      ] refl
+
+-- a key above another isn't the first of a list that begins with that one
+above_listed : {X : Type 0} (es : List (List ℕ × X)) (k : List ℕ) → T (below_all order k es) → is_listed (keys_of es) k ≡ false
+above_listed [] k above = refl
+above_listed (e ∷ es) k above = ap (λ b. b || is_listed (keys_of es) k) (sym (bytes_flip k e.0) ∙ apart k e.0 (less _ (first _ _ above))) ∙ above_listed es k (second _ _ above)
+  where
+    bytes_flip : (a b : List ℕ) → bytes_eq a b ≡ bytes_eq b a
+    bytes_flip a b = sym (is_eq-slice_cmp a b) ∙ ties_flip a b ∙ is_eq-slice_cmp b a
+
+below_first : {X : Type 0} (k : List ℕ) (e : List ℕ × X) (es : List (List ℕ × X)) → order k e.0 ≡ Less → T (is_sorted order (e ∷ es)) → T (below_all order k (e ∷ es))
+below_first {X = X} k e es below rising = both _ _ (subst (λ o. T (is_lt o)) (sym below) tt) (below_rest es (first _ _ rising))
+  where
+    below_rest : (fs : List (List ℕ × X)) → T (below_all order e.0 fs) → T (below_all order k fs)
+    below_rest [] h = tt
+    below_rest (f ∷ fs) h = both _ _ (subst (λ o. T (is_lt o)) (sym (nat_list_cmp_total.trans k e.0 f.0 below (less _ (first _ _ h)))) tt) (below_rest fs (second _ _ h))
+
+module _ {W G : Type 0} where
+  -- where no key is missing, there are as many or more, and one is too many exactly where there are more
+  pub extra-law : (ws : List (List ℕ × W)) (gs : List (List ℕ × G)) → T (is_sorted order ws) → T (is_sorted order gs) → lacks (keys_of ws) (keys_of gs) ≡ false
+      → (length ws ≤ length gs) × (lacks (keys_of gs) (keys_of ws) ≡ nat_lt (length ws) (length gs))
+  extra-law [] [] wanted given all = (omega arith, refl)
+  extra-law [] (g ∷ gs) wanted given all = (omega arith, sym (lt-ltb 0 (suc (length gs)) (omega arith)))
+  extra-law (w ∷ ws) [] wanted given all = (cc)
+  extra-law (w ∷ ws) (g ∷ gs) wanted given all =
+      elim (bytes_eq g.0 w.0) as (λ b. bytes_eq g.0 w.0 ≡ b → (not (b || is_listed (keys_of gs) w.0) || lacks (keys_of ws) (keys_of (g ∷ gs))) ≡ false → (suc (length ws) ≤ suc (length gs)) × (lacks (keys_of (g ∷ gs)) (keys_of (w ∷ ws)) ≡ nat_lt (suc (length ws)) (suc (length gs)))) [
+        | true ↦ λ same rest.
+            let here : g.0 ≡ w.0 = (bytes_eq-Decides g.0 w.0).0 same in
+            let above_ws : T (below_all order g.0 ws) = subst (λ k. T (below_all order k ws)) (sym here) (first _ _ wanted) in
+            let above_gs : T (below_all order w.0 gs) = subst (λ k. T (below_all order k gs)) here (first _ _ given) in
+            let next = extra-law ws gs (second _ _ wanted) (second _ _ given) (narrowed ws (g ∷ gs) gs g.0 (hit (g ∷ gs) g.0 gs (found_first g gs) given) above_ws ∙ rest) in (
+              omega (arith, next.0),
+              ap (λ b. not (b || is_listed (keys_of ws) g.0) || lacks (keys_of gs) (keys_of (w ∷ ws))) ((bytes_eq-Decides w.0 g.0).1 (sym here))
+                  ∙ sym (narrowed gs (w ∷ ws) ws w.0 (hit (w ∷ ws) w.0 ws (found_first w ws) wanted) above_gs) ∙ next.1 ∙ both_less (length ws) (length gs),
+            )
+        | false ↦ λ other rest.
+            let listed : is_listed (keys_of gs) w.0 ≡ true = first_of (is_listed (keys_of gs) w.0) _ rest in
+            let below : order g.0 w.0 ≡ Less = below_listed gs w.0 g.0 (first _ _ given) listed in
+            let under : T (below_all order g.0 (w ∷ ws)) = below_first g.0 w ws below wanted in
+            let next = extra-law (w ∷ ws) gs wanted (second _ _ given) (narrowed (w ∷ ws) (g ∷ gs) gs g.0 (hit (g ∷ gs) g.0 gs (found_first g gs) given) under ∙ all) in (
+              omega (arith, next.0),
+              ap (λ b. not b || lacks (keys_of gs) (keys_of (w ∷ ws))) (above_listed (w ∷ ws) g.0 under) ∙ true_less (length ws) (length gs) next.0,
+            )
+      ] refl all
+    where
+      found_first : {X : Type 0} (e : List ℕ × X) (es : List (List ℕ × X)) → behind (e ∷ es) e.0 ≡ Some es
+      found_first e es = ap (λ b. cond b (Some es) (behind es e.0)) ((bytes_eq-Decides e.0 e.0).1 refl)
+
+      first_of : (a b : Bool) → (not a || b) ≡ false → a ≡ true
+      first_of true b h = refl
+      first_of false b h = (cc)
+
+      below_listed : {X : Type 0} (es : List (List ℕ × X)) (k q : List ℕ) → T (below_all order q es) → is_listed (keys_of es) k ≡ true → order q k ≡ Less
+      below_listed [] k q above is = (cc)
+      below_listed (e ∷ es) k q above is =
+          elim (bytes_eq e.0 k) as (λ b. bytes_eq e.0 k ≡ b → (b || is_listed (keys_of es) k) ≡ true → order q k ≡ Less) [
+            | true ↦ λ same _. subst (λ x. order q x ≡ Less) ((bytes_eq-Decides e.0 k).0 same) (less _ (first _ _ above))
+            | false ↦ λ other later. below_listed es k q (second _ _ above) later
+          ] refl is
+
+      true_less : (a b : ℕ) → suc a ≤ b → true ≡ nat_lt (suc a) (suc b)
+      true_less a b le = sym (lt-ltb (suc a) (suc b) (omega (arith, le)))
+
+      both_less : (a b : ℕ) → nat_lt a b ≡ nat_lt (suc a) (suc b)
+      both_less a b = elim (nat_lt a b) as (λ x. nat_lt a b ≡ x → x ≡ nat_lt (suc a) (suc b)) [
+        | true ↦ λ h. sym (lt-ltb (suc a) (suc b) (omega (arith, ltb-true a b h)))
+        | false ↦ λ h. sym (le-ltb (suc a) (suc b) (omega (arith, ltb-false a b h)))
       ] refl

@@ -1,3 +1,4 @@
 pub mod KeysLemmas
 pub mod FaultsLemmas
 pub mod FitsLemmas
+pub mod ByKeyLemmas

@@ -6,3 +6,4 @@ pub mod Ids
 pub mod Parts
 pub mod Fits
 pub mod Faults
+pub mod Patched

@@ -1,12 +1,13 @@
 //! Texts with a check for each.
-ghost use Rattle.std.specs.Prelude.{◌≡◌, [], IfOk, None};
+ghost use Rattle.std.specs.Prelude.{◌≡◌, [], IfOk, None, option_map};
 ghost use Rattle.std.specs.Result.{result_err};
 ghost use Rattle.std.specs.Option.{option_copied};
 
 use crate::keys::check_keys;
 use crate::reject::{Reject, RejectKind, at};
 use crate::tree::Check;
-use rooms_val::{Mem, Text, Val, entries};
+use field_ops::ObjectDiff;
+use rooms_val::{Fields, Mem, Text, Val, entries};
 use std::alloc::Global;
 use std::marker::Model;
 
@@ -43,9 +44,12 @@ impl Model for Checks {
 impl Checks {
     ghost use Rattle.rooms_val.specs.View.{data_of};
     ghost use Rattle.record_valid.specs.Tree.{object, by_type, rows_of};
-    ghost use Rattle.rooms_val.specs.Maps.{with_key};
+    ghost use Rattle.rooms_val.specs.Maps.{value_at, with_key};
     ghost use Rattle.record_valid.specs.View.{tree_of};
     ghost use Rattle.record_valid.specs.Faults.{first_fault, row_fault};
+    ghost use Rattle.rooms_val.specs.Maps.{AreRising};
+    ghost use Rattle.record_valid.specs.Parts.{type_text};
+    ghost use Rattle.record_valid.specs.Patched.{fit_at, each_named_fits};
 
     /// The empty table.
     pub fn new(alloc: Global) -> Checks
@@ -99,5 +103,35 @@ impl Checks {
             Ok(place) => self.entries[place].1.check_value(val, depth, kind),
             Err(_) => Err(unlisted),
         }
+    }
+
+    /// Whether a check stands under the key and the value fits it, or neither is there.
+    pub(crate) fn fits_at(&self, key: &str, val: Option<&Val>, kind: Option<&str>) -> bool
+        ensures { result ≡ fit_at (option_copied kind.entry) (value_at self.now key.now) (option_map (λ v. data_of v.now) val.entry) }
+    {
+        match entries::get(&self.entries, key) {
+            Some(check) => match val {
+                Some(found) => check.check_value(found, 1, kind).is_ok(),
+                None => false,
+            },
+            None => val.is_none(),
+        }
+    }
+
+    /// Whether under each key that the patch names there are a check and a value that fits it, or neither. It costs a
+    /// logarithm of the keys for each of those, and the values under them.
+    pub(crate) fn still_fit(&self, map: &Fields, patch: &ObjectDiff) -> bool
+        ensures fits { result ≡ each_named_fits (type_text map.now) self.now map.now patch.now }
+        ensures rising { AreRising self.now }
+    {
+        // That the texts rise is told by the length.
+        let _ = self.entries.len();
+        let kind = map.text_at("type");
+        for (key, _) in patch.as_slice() {
+            if !self.fits_at(key.as_str(), map.get(key.as_str()), kind) {
+                return false;
+            }
+        }
+        true
     }
 }

@@ -36,7 +36,8 @@ fn lacks<W, G>(wanted: &[(Text, W)], given: &[(Text, G)]) -> bool
     false
 }
 
-/// Tells whether the keys are the same, and if not whether one is missing or else too many.
+/// Tells whether the keys are the same, and if not whether one is missing or else too many. Where none is missing, the
+/// numbers of keys tell whether there are too many.
 pub(crate) fn check_keys<W, G>(wanted: &[(Text, W)], given: &[(Text, G)]) -> Result<(), RejectKind>
     requires wanted { AreRising wanted.now }
     requires given { AreRising given.now }
@@ -45,7 +46,7 @@ pub(crate) fn check_keys<W, G>(wanted: &[(Text, W)], given: &[(Text, G)]) -> Res
     if lacks(wanted, given) {
         return Err(RejectKind::Missing);
     }
-    if lacks(given, wanted) {
+    if wanted.len() < given.len() {
         return Err(RejectKind::Extra);
     }
     Ok(())
