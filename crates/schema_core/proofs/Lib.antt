@@ -1,2 +1,3 @@
 pub mod NamesLemmas
 pub mod AdmitsLemmas
+pub mod PatchedLemmas

@@ -1,9 +1,12 @@
 //! Which records are admitted.
-ghost use Rattle.std.specs.Prelude.{◌≡◌, ◌↔◌, IsOk, option_map};
+ghost use Rattle.std.specs.Prelude.{◌≡◌, ◌↔◌, IsOk, Ok, IfSome, option_map};
 ghost use Rattle.rooms_val.specs.Answers.{Gives};
-ghost use Rattle.rooms_val.specs.Kinds.{field};
+ghost use Rattle.rooms_val.specs.Data.{Data, IsSound};
+ghost use Rattle.rooms_val.specs.Kinds.{field, on_map};
 ghost use Rattle.rooms_val.specs.Maps.{AreRising};
 ghost use Rattle.rooms_val.specs.View.{data_of};
+ghost use Rattle.field_ops.specs.Patched.{patched};
+ghost use Rattle.field_ops.specs.ValueOps.{edits_of};
 ghost use Rattle.migrate_seq.specs.SequencesOf.{sequences_of};
 ghost use Rattle.migrate_seq.specs.Records.{has_text};
 ghost use Rattle.schema_core.specs.Admits.{own_type};
@@ -12,9 +15,10 @@ ghost use Rattle.schema_core.specs.declared.fault.SchemaFault.TheVariants as sch
 use crate::fault::{RecordFault, SchemaFault};
 use crate::names::by_name;
 use crate::row::{RecordType, Scope, TypeRow};
+use field_ops::ObjectDiff;
 use migrate_seq::Sequences;
 use record_valid::fits::check;
-use record_valid::id_type;
+use record_valid::{id_type, still_fits};
 use rooms_val::{Text, Val, entries};
 use std::alloc::Global;
 
@@ -68,6 +72,41 @@ impl Schema {
             return Err(RecordFault::TooHeavy);
         }
         Ok(found.scope)
+    }
+
+    /// What [`Schema::admits`] answers of what a patch left of a record that was admitted under the id. The keys that the
+    /// patch names decide. Where those don't fit, or `id`, `typeName` or `type` is among them, the whole record is looked
+    /// at, and its weight is counted in any case, by one pass without a look-up.
+    pub fn admits_patched(
+        &self,
+        id: &str,
+        left: &Val,
+        patch: &ObjectDiff,
+    ) -> Result<Scope, RecordFault>
+        ensures { (before : Data) → IsSound before → IsAdmitted (schema_tree self.now) id.now before
+            → data_of left.now ≡ on_map (λ f. patched (edits_of patch.now) f) before
+            → result ≡ admission (schema_tree self.now) id.now (data_of left.now) }
+    {
+        match self.still_admits(id, left, patch) {
+            Some(scope) => Ok(scope),
+            None => self.admits(id, left),
+        }
+    }
+
+    // The scope of the records under the id, where the keys that the patch names tell that what it left is admitted.
+    fn still_admits(&self, id: &str, left: &Val, patch: &ObjectDiff) -> Option<Scope>
+        ensures { (before : Data) → IsSound before → IsAdmitted (schema_tree self.now) id.now before
+            → data_of left.now ≡ on_map (λ f. patched (edits_of patch.now) f) before
+            → IfSome result (λ scope. admission (schema_tree self.now) id.now (data_of left.now) ≡ Ok scope) }
+    {
+        if patch.get("id").is_some() || patch.get("typeName").is_some() {
+            return None;
+        }
+        let found = self.type_named(id_type(id)?)?;
+        if still_fits(&found.check, left, patch) && left.weight() <= GREATEST_WEIGHT {
+            return Some(found.scope);
+        }
+        None
     }
 
     /// The scope of the records under an id. `None` exactly where the text is no id of a type that the schema has. It takes
