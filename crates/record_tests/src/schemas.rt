@@ -2,7 +2,7 @@
 use crate::operations::operation;
 use crate::records::{RECORDS, record_at};
 use case_tables::{cells, rows, value};
-use field_ops::apply_record;
+use field_ops::{RecordOp, apply_record};
 use migrate_seq::Sequences;
 use record_valid::{Check, Reject};
 use rooms_val::{Text, Val};
@@ -53,7 +53,15 @@ fn admits_at(rt: &impl Abort, alloc: Global, version: &str) -> Result<(), Fail> 
 }
 
 /// A version, the id of a record, a patch of it, and what the schema answers then.
-const REFUSALS: &str = r#"
+const PATCHES: &str = r#"
+3 | page:p | {"name":["put","two"]} | Document
+3 | page:p | {"none":["delete"]} | Document
+3 | page:p | {"id":["put","page:q"]} | BadId
+3 | page:p | {"typeName":["put","document"]} | BadId
+3 | asset:i | {"props":["patch",{"w":["put",7]}]} | Document
+3 | shape:note | {"type":["put","frame"]} | Missing 2
+3 | shape:frame | {"type":["put","group"]} | Extra 2
+3 | shape:frame | {"type":["put","group"],"props":["put",{}]} | Document
 3 | document:d | {"name":["put",5]} | WrongKind 1
 3 | document:d | {"name":["delete"]} | Missing 1
 3 | document:d | {"gridSize":["put",0]} | OutOfBounds 1
@@ -139,10 +147,15 @@ const REFUSALS: &str = r#"
 3 | page:p | {"typeName":["put",null]} | BadId
 "#;
 
+/// The operation that patches a record.
+fn patch_op(alloc: Global, patch: &str) -> Result<RecordOp, Fail> {
+    let text = format!(in alloc; "[\"patch\",{patch}]")?;
+    operation(alloc, text.as_str())
+}
+
 /// A copy of a record that a patch has changed.
 pub(crate) fn patched(alloc: Global, record_: &Val, patch: &str) -> Result<Val, Fail> {
-    let text = format!(in alloc; "[\"patch\",{patch}]")?;
-    let op = operation(alloc, text.as_str())?;
+    let op = patch_op(alloc, patch)?;
     match apply_record(alloc, Some(record_), &op)? {
         Some(after) => Ok(after),
         None => Err(Fail::from("a record was wanted")),
@@ -150,13 +163,21 @@ pub(crate) fn patched(alloc: Global, record_: &Val, patch: &str) -> Result<Val, 
 }
 
 #[test]
-fn tells_the_first_fault_of_a_record(rt: HostRuntime) -> Result<(), Fail> {
+fn tells_the_first_fault_of_a_patched_record(rt: HostRuntime) -> Result<(), Fail> {
     let alloc = rt.alloc();
-    for row in &rows(alloc, REFUSALS)? {
+    for row in &rows(alloc, PATCHES)? {
         let [version, id, patch, wanted] = cells(row);
-        let after = patched(alloc, &record_at(alloc, version, id)?, patch)?;
-        let answer = told(alloc, schema_of(alloc, version)?.admits(id, &after))?;
-        assert_eq!(rt; answer.as_str(), wanted, "at {row}");
+        let schema = schema_of(alloc, version)?;
+        let left = patched(alloc, &record_at(alloc, version, id)?, patch)?;
+        assert_eq!(rt;
+            told(alloc, schema.admits(id, &left))?.as_str(),
+            wanted,
+            "at {row}"
+        );
+        if let RecordOp::Patch(diff) = patch_op(alloc, patch)? {
+            let answer = told(alloc, schema.admits_patched(id, &left, &diff))?;
+            assert_eq!(rt; answer.as_str(), wanted, "by its patch at {row}");
+        }
     }
     Ok(())
 }
