@@ -3,3 +3,4 @@ pub mod SizeLemmas
 pub mod PartLemmas
 pub mod PresenceLemmas
 pub mod EntryLemmas
+pub mod AdmittedLemmas

@@ -22,9 +22,10 @@ use Rattle.room_model.proofs.LookUpLemmas.{unnamed}
 use Rattle.room_schemas.specs.Decided.{alone}
 use Rattle.room_accept.specs.Parts.{IsPart, are_documents, is_taken_in, with_tried}
 use Rattle.room_accept.specs.Sizes.{size_of, size_after, is_within}
-use Rattle.room_accept.specs.Suiting.{each_changes, left_under}
+use Rattle.room_accept.specs.Suiting.{AreAdmitted, each_changes, left_under}
 use Rattle.room_accept.specs.declared.part.Part.{Part}
 use Rattle.room_accept.specs.declared.size.DocumentSize.{DocumentSize}
+use Rattle.room_accept.proofs.AdmittedLemmas.{admitted-set_at, left_standing}
 use Rattle.room_accept.proofs.SizeLemmas.{size-set_at}
 
 pub and_false : (a : Bool) → a && false ≡ false
@@ -157,5 +158,7 @@ part_pushed s m part next id c left-data m-rises was document rising taken leave
       size = size ∙ sym (size_pushed s m m-rises part.diff part.size was.size id document absent c) ∙ ap (λ d. size_of (is_document s) (fold_raw m d)) (sym diff);
       changing = ap (each_changes m) diff ∙ list_all-append (λ d. is_some (raw d.1 (value_at m d.0)) || is_some (value_at m d.0)) part.diff ((id, c) ∷ [])
           ∙ both _ _ was.changing (both _ _ (acting_changes (is_admitted s) id c r (left _ _ (left _ _ taken))) refl);
+      admitted = subst (AreAdmitted s) (sym (ap (fold_raw m) diff ∙ pushed s m m-rises part.diff part.size was.size id document absent c))
+          (admitted-set_at s (fold_raw m part.diff) id (raw c r) was.admitted (left_standing s id c r (left _ _ (left _ _ taken)) (right _ _ (left _ _ taken))));
       rising = subst AreRising (sym diff) rising;
     }

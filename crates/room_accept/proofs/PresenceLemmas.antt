@@ -25,11 +25,13 @@ use Rattle.schema_core.specs.declared.row.Scope.TheVariants.{Document, Session, 
 use Rattle.room_model.specs.Schemas.{records_with}
 use Rattle.room_model.proofs.ActingLemmas.{all-with_key, left, right, differ}
 use Rattle.room_model.proofs.LookUpLemmas.{none_at, rising-mapped, rising-filter}
-use Rattle.room_schemas.specs.Decided.{is_presence, is_of_presence}
+use Rattle.room_model.specs.Accepting.{is_put_admitted}
+use Rattle.room_schemas.specs.Decided.{alone, is_presence, is_of_presence}
 use Rattle.room_accept.specs.Parts.{IsPart, IsOwnLeft, are_documents, own_part}
 use Rattle.room_accept.specs.Sizes.{size_of}
-use Rattle.room_accept.specs.Suiting.{each_changes, left_under}
+use Rattle.room_accept.specs.Suiting.{AreAdmitted, each_changes, left_under}
 use Rattle.room_accept.specs.declared.part.Part.{Part}
+use Rattle.room_accept.proofs.AdmittedLemmas.{admitted-beside, left_standing}
 use Rattle.room_accept.proofs.PartLemmas.{acted, acting_changes}
 use Rattle.room_accept.proofs.SizeLemmas.{same_records, records-set_at, adds, total-set_at, length_total}
 
@@ -130,13 +132,14 @@ rising_after s m part is =
 
 -- what was accepted, and a presence beside it
 pub part_beside : (s : SchemaTree) (m : Pairs) (part all : Part) (id : List ℕ) (c : RecordOpTree) (left : Option Val) → AreRising m → IsPart s m part → is_presence s id ≡ true
-    → acts_on (is_admitted s) id c (value_at m id) ≡ true → maybe_data left ≡ raw c (value_at m id)
+    → acts_on (is_admitted s) id c (value_at m id) ≡ true → is_put_admitted (alone s) id c ≡ true → maybe_data left ≡ raw c (value_at m id)
     → all.diff ≡ with_key part.diff id c → all.after.items ≡ with_key part.after.items id left → all.size ≡ part.size
     → IsPart s m all
-part_beside s m part all id c left-data m-rises was presence acts leaves diff after size = record {
+part_beside s m part all id c left-data m-rises was presence acts puts leaves diff after size = record {
   after = ap (seen maybe_data) after ∙ seen-with_key maybe_data part.after.items id left-data ∙ (λ i. with_key (was.after i) id (leaves i)) ∙ sym (left_under-with m part.diff id c) ∙ ap (left_under m) (sym diff);
   size = size ∙ was.size ∙ sym (size_beside s m part.diff id c m-rises was.rising presence) ∙ ap (λ d. size_of (is_document s) (fold_raw m d)) (sym diff);
   changing = ap (each_changes m) diff ∙ all-with_key (λ d. is_some (raw d.1 (value_at m d.0)) || is_some (value_at m d.0)) part.diff id c was.changing (acting_changes (is_admitted s) id c (value_at m id) acts);
+  admitted = subst (λ d. AreAdmitted s (fold_raw m d)) (sym diff) (admitted-beside s m part.diff id c was.rising was.admitted (left_standing s id c (value_at m id) acts puts));
   rising = subst AreRising (sym diff) (rising-with_key part.diff id c was.rising);
 }
 

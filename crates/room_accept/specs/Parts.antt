@@ -13,7 +13,7 @@ use Rattle.schema_core.specs.Tree.{SchemaTree}
 use Rattle.room_model.specs.Accepting.{is_put_admitted}
 use Rattle.room_schemas.specs.Decided.{alone}
 use Rattle.room_accept.specs.Sizes.{size_of, size_after, is_within}
-use Rattle.room_accept.specs.Suiting.{each_changes, left_under}
+use Rattle.room_accept.specs.Suiting.{AreAdmitted, each_changes, left_under}
 use Rattle.room_accept.specs.declared.part.Part.{Part}
 use Rattle.room_accept.specs.declared.size.DocumentSize.{DocumentSize}
 
@@ -22,6 +22,7 @@ pub record IsPart (s : SchemaTree) (m : Pairs) (part : Part) : Type 0 where
   pub after : seen maybe_data part.after.items ≡ left_under m part.diff
   pub size : part.size ≡ size_of (is_document s) (fold_raw m part.diff)
   pub changing : each_changes m part.diff ≡ true
+  pub admitted : AreAdmitted s (fold_raw m part.diff)
   -- no id stands twice
   pub rising : AreRising part.diff
 
@@ -49,3 +50,8 @@ pub record IsOwnLeft (s : SchemaTree) (m : Pairs) (id : List ℕ) (c : RecordOpT
   pub acting : acts_on (is_admitted s) id c (value_at m id) ≡ true
   pub leaves : maybe_data left ≡ raw c (value_at m id)
   pub rising : AreRising m
+
+-- the record is admitted under the id, or there is none
+abbrev pub IsStanding : SchemaTree → List ℕ → Option Data → Type 0
+IsStanding s id None = Unit {0}
+IsStanding s id (Some d) = is_admitted s id d ≡ true

@@ -7,7 +7,7 @@ ghost use Rattle.room_model.specs.Accepting.{is_taken, entry_of};
 ghost use Rattle.room_schemas.specs.Decided.{decided};
 ghost use Rattle.room_accept.specs.Pushes.{member_of, push_of};
 ghost use Rattle.room_accept.specs.Sizes.{size_of};
-ghost use Rattle.room_accept.specs.Suiting.{HasPresences, Suits};
+ghost use Rattle.room_accept.specs.Suiting.{AreAdmitted, HasPresences, Suits};
 
 use crate::accepted::Accepted;
 use crate::action::action_of;
@@ -24,7 +24,8 @@ use std::alloc::Global;
 
 /// What is accepted of a push of a session, in a room that has these records. `None` exactly where
 /// the push is refused. Nothing changes. It costs what the diff names, and a logarithm of the
-/// records for each id; no map is copied. `F` is the fault of an edit, which contracts alone name.
+/// records for each id; no map is copied. A patched record is checked at the keys that its patch
+/// names, since each record is one that the schema admits. `F` is the fault of an edit, which contracts alone name.
 pub fn accept<F: Drop>(
     alloc: Global,
     schema: &Schema,
@@ -35,6 +36,7 @@ pub fn accept<F: Drop>(
 ) -> Mem<Option<Accepted>>
     requires size { size ≡ size_of (is_document (schema_tree schema.now)) records.now.0 }
     requires presence { HasPresences (schema_tree schema.now) }
+    requires admitted { AreAdmitted (schema_tree schema.now) records.now.0 }
     ensures taken { IfOk result (λ accepted. (clients : ℕ → ClientSchema F)
         → is_some accepted ≡ is_taken (decided (schema_tree schema.now) clients) (member_of member.entry) (push_of push.entry)) }
     ensures entry { IfOk result (λ accepted. IfSome accepted (λ a. (clients : ℕ → ClientSchema F)

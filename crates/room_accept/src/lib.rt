@@ -9,6 +9,7 @@
 pub mod accepted;
 pub mod accepting;
 mod action;
+mod admitted;
 mod fit;
 mod part;
 pub mod plan;

@@ -9,17 +9,19 @@ ghost use Rattle.schema_core.specs.Admits.{is_document};
 ghost use Rattle.schema_core.specs.SchemaOf.{schema_tree};
 ghost use Rattle.room_model.specs.Accepting.{pushed_diff, tried_op, accept_ops, document_part};
 ghost use Rattle.room_schemas.specs.Decided.{alone};
-ghost use Rattle.room_accept.specs.Parts.{IsPart, are_documents, is_taken_in, with_tried};
+ghost use Rattle.room_accept.specs.Parts.{IsPart, IsStanding, are_documents, is_taken_in, with_tried};
 ghost use Rattle.room_accept.specs.Plans.{plan_of};
 ghost use Rattle.room_accept.specs.Pushes.{member_of};
 ghost use Rattle.room_accept.specs.Sizes.{size_of, size_after};
+ghost use Rattle.room_accept.specs.Suiting.{AreAdmitted};
 
+use crate::admitted::step_admitted;
 use crate::fit::is_put_admitted;
 use crate::plan::SessionPlan;
 use crate::push::Member;
 use crate::size::DocumentSize;
 use crate::tried::tried;
-use doc_store::{DocStore, MapDoc, step_record};
+use doc_store::{DocStore, MapDoc};
 use field_ops::{Diff, RecordOp};
 use rooms_val::{Mem, Text, Val};
 use schema_core::Schema;
@@ -46,6 +48,7 @@ pub(crate) fn document_part(
     pushed: &Option<Diff>,
 ) -> Mem<Part>
     requires size { size ≡ size_of (is_document (schema_tree schema.now)) records.now.0 }
+    requires admitted { AreAdmitted (schema_tree schema.now) records.now.0 }
     requires documents { member.readonly ≡ false → are_documents (schema_tree schema.now) (pushed_diff pushed.now) ≡ true }
     ensures diff { IfOk result (λ part. part.diff ≡ document_part (alone (schema_tree schema.now)) (member_of member.entry) records.now.0 (pushed_diff pushed.now)) }
     ensures part { IfOk result (IsPart (schema_tree schema.now) records.now.0) }
@@ -72,6 +75,7 @@ fn accept_each(
     diff: &Diff,
 ) -> Mem<Part>
     requires size { size ≡ size_of (is_document (schema_tree schema.now)) records.now.0 }
+    requires admitted { AreAdmitted (schema_tree schema.now) records.now.0 }
     requires documents { are_documents (schema_tree schema.now) diff.now ≡ true }
     ensures diff { IfOk result (λ part. part.diff ≡ accept_ops (alone (schema_tree schema.now)) (plan_of plan.now) records.now.0 diff.now) }
     ensures part { IfOk result (IsPart (schema_tree schema.now) records.now.0) }
@@ -98,6 +102,7 @@ fn accept_one(
     op: &RecordOp,
 ) -> Mem<Part>
     requires part { IsPart (schema_tree schema.now) records.now.0 part }
+    requires admitted { AreAdmitted (schema_tree schema.now) records.now.0 }
     requires document { is_document (schema_tree schema.now) id.now ≡ true }
     requires later { AreRising (part.diff ++ (id.now, change_of op.now) ∷ []) }
     ensures diff { IfOk result (λ next. let r = value_at records.now.0 id.now in
@@ -123,10 +128,11 @@ fn left_by(
     before: Option<&Val>,
     op: &RecordOp,
 ) -> Mem<Option<(Option<Val>, DocumentSize)>>
+    requires { IsStanding (schema_tree schema.now) id.now (maybe_data (option_copied before)) }
     ensures { IfOk result (λ left. let r = maybe_data (option_copied before.entry) in let taken = is_taken_in (schema_tree schema.now) size id.now (change_of op.now) r in
         MatchOption left (taken ≡ false) (λ l. (taken ≡ true) × (maybe_data l.0 ≡ raw (change_of op.now) r) × (l.1 ≡ size_after size r (raw (change_of op.now) r)))) }
 {
-    let Some(after) = step_record(alloc, schema, id, before, op)? else {
+    let Some(after) = step_admitted(alloc, schema, id, before, op)? else {
         return Ok(None);
     };
     if !is_put_admitted(schema, id, op) {

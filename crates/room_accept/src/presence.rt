@@ -1,20 +1,22 @@
 //! The presence of sessions in pushes.
 ghost use Rattle.std.specs.Prelude.{◌≡◌, ◌≤◌, ◌+◌, true, length, None, IfOk, MatchOption, option_map, option_and_then};
+ghost use Rattle.std.specs.Option.{option_map_or};
 ghost use Rattle.rooms_val.specs.Maps.{AreRising, added, with_key};
 ghost use Rattle.rooms_val.specs.View.{data_of};
 ghost use Rattle.field_ops.specs.ViewRecordOps.{change_of, maybe_change};
 ghost use Rattle.schema_core.specs.SchemaOf.{schema_tree};
 ghost use Rattle.doc_model.specs.Documents.{fold_raw};
-ghost use Rattle.room_model.specs.Accepting.{with_id, own_presence};
+ghost use Rattle.room_model.specs.Accepting.{is_put_admitted, with_id, own_presence};
 ghost use Rattle.room_model.specs.Schemas.{presence_id, records_with};
 ghost use Rattle.room_schemas.specs.Decided.{alone, is_presence};
 ghost use Rattle.room_accept.specs.Parts.{IsPart, IsOwnLeft, are_documents, own_part};
 ghost use Rattle.room_accept.specs.Pushes.{member_of};
-ghost use Rattle.room_accept.specs.Suiting.{HasPresences};
+ghost use Rattle.room_accept.specs.Suiting.{AreAdmitted, HasPresences};
 
+use crate::admitted::step_admitted;
 use crate::part::Part;
 use crate::push::Member;
-use doc_store::{DocStore, MapDoc, step_record};
+use doc_store::{DocStore, MapDoc};
 use field_ops::RecordOp;
 use rooms_val::{Mem, Text, Val, entries};
 use schema_core::Schema;
@@ -92,6 +94,8 @@ pub(crate) fn with_presence(
     requires part { IsPart (schema_tree schema.now) records.now.0 part }
     requires documents { are_documents (schema_tree schema.now) part.diff ≡ true }
     requires presence { is_presence (schema_tree schema.now) id ≡ true }
+    requires admitted { AreAdmitted (schema_tree schema.now) records.now.0 }
+    requires own { option_map_or (λ c. is_put_admitted (alone (schema_tree schema.now)) id c) (maybe_change own) true ≡ true }
     ensures diff { IfOk result (λ all. all.diff ≡ added part.diff id (option_and_then (own_part (schema_tree schema.now) records.now.0 id) (maybe_change own))) }
     ensures part { IfOk result (IsPart (schema_tree schema.now) records.now.0) }
     ensures presences { IfOk result (λ all. length (records_with (is_presence (schema_tree schema.now)) (fold_raw records.now.0 all.diff)) ≤ length (records_with (is_presence (schema_tree schema.now)) records.now.0) + 1) }
@@ -113,13 +117,14 @@ fn own_left(
     id: &str,
     op: &RecordOp,
 ) -> Mem<Option<Option<Val>>>
+    requires { AreAdmitted (schema_tree schema.now) records.now.0 }
     ensures { IfOk result (λ left. MatchOption left (own_part (schema_tree schema.now) records.now.0 id.now (change_of op.now) ≡ None)
         (IsOwnLeft (schema_tree schema.now) records.now.0 id.now (change_of op.now))) }
 {
     if let RecordOp::Remove = op {
         return Ok(None);
     }
-    step_record(alloc, schema, id, records.get(id), op)
+    step_admitted(alloc, schema, id, records.get(id), op)
 }
 
 // What was accepted with one operation more, which changes nothing of the document, and what it

@@ -4,7 +4,7 @@ use mir.Val.{to_z, of_z}
 use Rattle.field_ops.specs.ViewRecordOps.{maybe_change}
 use Rattle.schema_core.specs.SchemaOf.{schema_tree}
 use Rattle.room_model.specs.Accepting.{is_fit}
-use Rattle.room_model.proofs.ActingLemmas.{left}
+use Rattle.room_model.proofs.ActingLemmas.{left, right}
 use Rattle.room_schemas.specs.Decided.{alone, is_presence}
 use Rattle.room_accept.specs.Parts.{are_documents}
 use Rattle.room_accept.specs.Pushes.{member_of, push_of}
@@ -51,3 +51,6 @@ returns-clause-entry g c clients =
     ap (λ z. record { diff = c.in_ok-diff.field-0.diff; author = Some (record { session = c.args.member.session; client_clock = z; action = c.in_ok-action.action }) }) back
     ∙ entry_is (schema_tree c.args.schema.now) (member_of c.args.member) clients c.args.records.now.0 (push_of c.args.push) c.in_ok-id.id (maybe_change c.in_ok-own.own) c.in_ok-part.part.diff c.in_ok-diff.field-0.diff c.in_ok-action.action
     c.in_ok-id.ensures c.in_ok-own.ensures c.in_ok-part.ensures.diff c.in_ok-diff.ensures.diff c.in_ok-action.ensures
+
+pub with_presence-requires-clause-own : goal.with_presence-requires-clause-own
+with_presence-requires-clause-own g c = right _ _ (sym c.in_ok-is_taken.ensures ∙ c.if-not-branch.false)

@@ -13,7 +13,7 @@ use Rattle.room_schemas.specs.Decided.{alone}
 use Rattle.room_accept.specs.Parts.{are_documents, with_tried}
 use Rattle.room_accept.specs.Plans.{plan_of}
 use Rattle.room_accept.specs.Sizes.{size_of}
-use Rattle.room_accept.specs.Suiting.{each_changes, left_under}
+use Rattle.room_accept.specs.Suiting.{AreAdmitted, each_changes, left_under}
 use Rattle.room_accept.proofs.PartLemmas.{rising_up_to, none_before, going_on, rising_tried}
 use Rattle.room_accept.proofs.part.accept_each.Goals as goal
 
@@ -29,6 +29,7 @@ ids-init c =
         after = ap (seen maybe_data) c.new-2.ensures.items ∙ ap (left_under m) (sym c.new.ensures);
         size = c.requires.size ∙ ap (λ d. size_of (is_document s) (fold_raw m d)) (sym c.new.ensures);
         changing = ap (each_changes m) c.new.ensures;
+        admitted = subst (λ d. AreAdmitted s (fold_raw m d)) (sym c.new.ensures) c.requires.admitted;
         rising = subst AreRising (sym c.new.ensures) tt;
       };
       rising = subst (λ d. AreRising (d ++ all)) (sym c.new.ensures) (subst AreRising (sym c.as_slice-id-items.ensures.pairs) c.as_slice-id-items.ensures.sound.0);
@@ -46,6 +47,7 @@ accept_one-requires c =
     let rising : AreRising (c.ids.part.diff ++ (x.0, change_of x.1) ∷ more) = subst (λ l. AreRising (c.ids.part.diff ++ l)) parts c.ids.invariant.rising in
     record {
       part = c.ids.invariant.part;
+      admitted = c.requires.admitted;
       document = left _ _ documents;
       later = rising_up_to c.ids.part.diff (x.0, change_of x.1) more rising;
     }

@@ -12,7 +12,8 @@ use Rattle.field_ops.specs.ViewRecordOps.{change_of}
 use Rattle.schema_core.specs.SchemaOf.{schema_tree}
 use Rattle.room_model.specs.Accepting.{tried_op}
 use Rattle.room_schemas.specs.Decided.{alone}
-use Rattle.room_accept.specs.Parts.{IsPart, is_taken_in, with_tried}
+use Rattle.room_accept.specs.Parts.{IsPart, IsStanding, is_taken_in, with_tried}
+use Rattle.room_accept.proofs.AdmittedLemmas.{standing_at}
 use Rattle.room_accept.specs.Plans.{plan_of}
 use Rattle.room_accept.specs.Sizes.{size_after}
 use Rattle.room_accept.specs.declared.size.DocumentSize.{DocumentSize}
@@ -21,6 +22,17 @@ use Rattle.room_accept.proofs.part.accept_one.Goals as goal
 
 pub added-requires : goal.added-requires
 added-requires c = rising-other c.args.part.diff c.args.id.now (change_of c.args.op.now) (change_of c.in_ok-op.op) [] c.requires.later
+
+pub left_by-requires : goal.left_by-requires
+left_by-requires c =
+    let s = schema_tree c.args.schema.now in
+    let m = c.args.records.now.0 in
+    let found : maybe_data (option_copied c.get-before.result) ≡ value_at m c.args.id.now =
+    elim c.get-before.result as (λ o. option_map (λ v. data_of v.now) o ≡ value_at m c.as_str.result.now → maybe_data (option_copied o) ≡ value_at m c.args.id.now) [
+      | None ↦ λ is. is ∙ ap (value_at m) c.as_str.ensures.bytes
+      | Some v ↦ λ is. is ∙ ap (value_at m) c.as_str.ensures.bytes
+    ] c.get-before.ensures.found in
+    subst (λ k. IsStanding s k (maybe_data (option_copied c.get-before.result))) (sym c.as_str-2.ensures.bytes) (standing_at s m c.requires.admitted c.args.id.now _ found)
 
 pub returns-in-Some : goal.returns-in-Some
 returns-in-Some c =

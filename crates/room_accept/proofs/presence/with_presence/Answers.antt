@@ -1,7 +1,8 @@
 use Rattle.std.proofs.Common.{◌≡◌, ◌+◌, ◌≤◌, length, None, Ok, Err, sym, ap, subst, arith}
 use Rattle.std.specs.Prelude.{IfOk, MatchOption}
 use Rattle.rooms_val.specs.Maps.{with_key}
-use Rattle.field_ops.specs.ViewRecordOps.{change_of}
+use Rattle.field_ops.specs.ViewRecordOps.{change_of, maybe_change}
+use Rattle.room_accept.proofs.AdmittedLemmas.{own_standing}
 use Rattle.doc_model.specs.Documents.{fold_raw}
 use Rattle.schema_core.specs.SchemaOf.{schema_tree}
 use Rattle.room_model.specs.Schemas.{records_with}
@@ -26,8 +27,9 @@ returns-in-Some-2-clause-part c =
     let op = change_of c.in-Some.op in
     let key = c.as_str.result.now in
     let own = subst (λ k. IsOwnLeft s m k op c.in-Some-2.left) c.as_str.ensures.bytes (subst (λ o. MatchOption o (own_part s m key op ≡ None) (IsOwnLeft s m key op)) c.in-Some-2.is c.in_ok-left.ensures) in
+    let puts = own_standing s id _ op (ap maybe_change c.in-Some.is) c.requires.own in
     elim c.inserted.result as (λ x. IfOk x (λ n. n.diff ≡ with_key part.diff id op) → IfOk x (λ n. n.after.items ≡ with_key part.after.items id c.in-Some-2.left) → IfOk x (λ n. n.size ≡ part.size) → IfOk x (IsPart s m)) [
-      | Ok all ↦ λ diff after size. part_beside s m part all id op c.in-Some-2.left own.rising c.requires.part c.requires.presence own.acting own.leaves diff after size
+      | Ok all ↦ λ diff after size. part_beside s m part all id op c.in-Some-2.left own.rising c.requires.part c.requires.presence own.acting puts own.leaves diff after size
       | Err e ↦ λ diff after size. tt
     ] c.inserted.ensures.diff c.inserted.ensures.after c.inserted.ensures.size
 
