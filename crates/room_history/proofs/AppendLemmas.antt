@@ -21,8 +21,9 @@ use Rattle.room_model.proofs.HistoryLemmas.{filter_twice, at_most-filter}
 use Rattle.room_model.proofs.LookUpLemmas.{at-filter, rising-mapped}
 use Rattle.room_schemas.specs.Decided.{is_presence, is_of_presence}
 use Rattle.room_accept.specs.Sizes.{size_of}
-use Rattle.room_accept.specs.Suiting.{Suits, HasPresences, left_under, each_changes}
+use Rattle.room_accept.specs.Suiting.{AreAdmitted, Suits, HasPresences, left_under, each_changes}
 use Rattle.room_accept.specs.declared.accepted.Accepted.{Accepted}
+use Rattle.room_accept.proofs.AdmittedLemmas.{admitted-set_at}
 use Rattle.room_history.specs.Keeps.{Keeps, KeepsSome}
 use Rattle.room_history.specs.Marks.{is_listed, marks_of}
 use Rattle.room_history.specs.declared.kept.Kept.{Kept}
@@ -75,6 +76,7 @@ module _ (first : ℕ) (history : History) (old new : Kept) (accepted : Accepted
       appended first history old new accepted.entry (seen maybe_data accepted.after.items) keeps step rising
       (suits.after ∙ ap (λ r. left_under r accepted.entry.diff) at)
       (ap (λ r. each_changes r accepted.entry.diff) (sym at) ∙ suits.changing)
+      (subst (λ t. AreAdmitted t (fold_raw m accepted.entry.diff)) (sym same) (subst (λ r. AreAdmitted s (fold_raw r accepted.entry.diff)) at suits.admitted))
       (size ∙ suits.size ∙ (λ i. size_of (is_document (sym same i)) (fold_raw (at i) accepted.entry.diff)))
       (omega arith) (omega (arith, ints))
 
@@ -124,5 +126,6 @@ module _ (first : ℕ) (history : History) (old new : Kept) (session : ℕ) (kee
       let bound = keeps.bounded in
       appended first history old new (removal session) ((Id, None) ∷ []) keeps step tt refl
       (ap (λ b. b && true) here)
+      (subst (λ t. AreAdmitted t (without_key M Id)) (sym same) (admitted-set_at s M Id None keeps.admitted tt))
       (size ∙ keeps.size ∙ (λ i. record { count = length (sym document i); weight = sum (map (λ p. weight p.1) (sym document i)) }) ∙ ap (λ t. size_of (is_document t) (without_key M Id)) (sym same))
       (omega arith) (omega arith)

@@ -14,7 +14,7 @@ use Rattle.room_model.specs.declared.limits.TheConstants.{MOST_TOLD}
 use Rattle.room_model.proofs.HistoryLemmas.{start_within, start_rises}
 use Rattle.room_schemas.specs.Decided.{is_presence}
 use Rattle.room_accept.specs.Sizes.{size_of}
-use Rattle.room_accept.specs.Suiting.{left_under, each_changes}
+use Rattle.room_accept.specs.Suiting.{AreAdmitted, left_under, each_changes}
 use Rattle.room_history.specs.Entries.{recent_tree, newest, trees_of}
 use Rattle.room_history.specs.Keeps.{Keeps, change_at}
 use Rattle.room_history.specs.Marks.{Left, Lists, set_all, mark_all, marks_of}
@@ -76,12 +76,13 @@ module _ (first : ℕ) (history : History) (old new : Kept) (entry : Entry) (lef
   newest_is : record { clock = new.clock; entry = entry; after = left } ≡ newest entry history
   newest_is = (λ i. record { clock = clock_is i; entry = entry; after = (leaves ∙ sym (left-after entry.diff (records_of history) rising)) i })
 
-  pub appended : new.size ≡ size_of (is_document (schema_tree new.schema)) (records_of (entry ∷ history))
+  pub appended : AreAdmitted (schema_tree new.schema) (records_of (entry ∷ history)) → new.size ≡ size_of (is_document (schema_tree new.schema)) (records_of (entry ∷ history))
       → presences new (entry ∷ history) ≤ suc (length history) → suc (length history) + presences new (entry ∷ history) ≤ 2 ^ 54
       → Keeps first (entry ∷ history) new
-  appended size few bounded = record {
+  appended admitted size few bounded = record {
     began = omega (arith, keeps.began);
     records = records_are;
+    admitted = admitted;
     size = size;
     clock = clock_is;
     live = step.live ∙ ap (λ ls. ls.0) lists_are;

@@ -11,6 +11,7 @@ use Rattle.std.specs.Prelude.{int_le}
 use Rattle.schema_core.specs.Admits.{is_document}
 use Rattle.schema_core.specs.SchemaOf.{schema_tree}
 use Rattle.room_accept.specs.Sizes.{size_of}
+use Rattle.room_accept.specs.Suiting.{AreAdmitted}
 use Rattle.change_list.specs.declared.entries.Change.{Change}
 use Rattle.change_list.specs.Changes.{listed, AreUpTo}
 use Rattle.rooms_val.specs.Maps.{value_at, ties}
@@ -111,6 +112,9 @@ at_most a b some so =
 module _ (kept : Kept) (some : ∥ KeepsSome kept ∥₁) where
   pub idle : kept.records.1 ≡ []
   idle = no_open kept.records.1 (∥∥₁_elim some (ℕ_set _ _) (λ k. ap (λ r. length r.1) k.1.1.records))
+
+  pub admitted_are : AreAdmitted (schema_tree kept.schema) kept.records.0
+  admitted_are id d is = ∥∥₁_elim some (Bool-set _ _) (λ k. k.1.1.admitted id d (ap (λ r. value_at r.0 id) (sym k.1.1.records) ∙ is))
 
   pub size_is : kept.size ≡ size_of (is_document (schema_tree kept.schema)) kept.records.0
   size_is =

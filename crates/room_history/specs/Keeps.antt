@@ -10,6 +10,7 @@ use Rattle.room_model.specs.Schemas.{records_with}
 use Rattle.room_model.specs.declared.limits.TheConstants.{MOST_TOLD}
 use Rattle.room_schemas.specs.Decided.{is_presence}
 use Rattle.room_accept.specs.Sizes.{size_of}
+use Rattle.room_accept.specs.Suiting.{AreAdmitted}
 use Rattle.room_history.specs.Entries.{recent_tree, trees_of}
 use Rattle.room_history.specs.declared.kept.Kept.{Kept}
 
@@ -27,6 +28,8 @@ pub record Keeps (first : ℕ) (history : History) (kept : Kept) : Type 0 where
   pub began : first ≤ length history
   -- the records, and no transaction is open on them
   pub records : kept.records ≡ (records_of history, [])
+  -- each record is one that the schema admits
+  pub admitted : AreAdmitted (schema_tree kept.schema) (records_of history)
   -- how large the document is
   pub size : kept.size ≡ size_of (is_document (schema_tree kept.schema)) (records_of history)
   pub clock : kept.clock ≡ pos (length history)

@@ -17,6 +17,7 @@ invariant_of-result c =
     let keeps : Keeps 0 [] kept = record {
       began = omega arith;
       records = c.new-2.ensures;
+      admitted = λ id d is. (cc);
       size = refl;
       clock = refl;
       live = c.in_ok-changes.ensures.0;
