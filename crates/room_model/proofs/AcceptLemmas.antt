@@ -14,7 +14,7 @@ both_left : (a b : Bool) → a && b ≡ true → a ≡ true
 both_left true b is = refl
 both_left false b is = is
 
-module _ {F : Type 0} (schemas : Schemas F) where
+module _ (schemas : Schemas) where
   -- what is accepted acts
   pub accepted_acts : (m : Pairs) (id : List ℕ) (c : _) → is_accepted schemas m id c ≡ true → acts_on schemas.admits id c (value_at m id) ≡ true
   accepted_acts m id c is = both_left _ _ (both_left _ _ is)
@@ -69,7 +69,7 @@ none_of_none : (diff : RecordOps) → 0 ≡ length diff → diff ≡ []
 none_of_none [] is = refl
 none_of_none (c ∷ diff) is = absurd (omega arith)
 
-module _ {F : Type 0} (schemas : Schemas F) (member : Member) (m : Pairs) (diff : RecordOps) where
+module _ (schemas : Schemas) (member : Member) (m : Pairs) (diff : RecordOps) where
   when_commit : (b : Bool) → member.readonly ≡ b → action_of member.plan diff (cond b [] (accept_ops schemas member.plan m diff)) ≡ Commit → (diff ≡ []) ⊎ ((member.readonly ≡ false) × (member.plan ≡ []) × (accept_ops schemas member.plan m diff ≡ diff))
   when_commit true ro is = elim (commit_says member.plan diff [] is) [ inl none ↦ inl none | inr p ↦ inl (none_of_none diff p.1) ]
   when_commit false ro is = elim (commit_says member.plan diff (accept_ops schemas member.plan m diff) is) [

@@ -99,12 +99,12 @@ filter-with_key {V} test (e ∷ es) k v all out =
     ] refl
 
 -- what acts is sure
-sure : {F : Type 0} (schemas : Schemas F) (id : List ℕ) (c : RecordOpTree) (r : Option Data) → acts_on schemas.admits id c r ≡ true → is_sure schemas id c r ≡ true
+sure : (schemas : Schemas) (id : List ℕ) (c : RecordOpTree) (r : Option Data) → acts_on schemas.admits id c r ≡ true → is_sure schemas id c r ≡ true
 sure schemas id (put d) r is = refl
 sure schemas id (patch p) r is = is
 sure schemas id remove r is = refl
 
-module _ {F : Type 0} (schemas : Schemas F) (plan : Plan) where
+module _ (schemas : Schemas) (plan : Plan) where
   -- the ids that are accepted are some of the diff's
   below-accepted : (k : List ℕ) (m : Pairs) (diff : RecordOps) → T (below_all order k diff) → T (below_all order k (accept_ops schemas plan m diff))
   below-accepted k m [] h = tt
@@ -161,14 +161,14 @@ action_says plan (c ∷ diff) (d ∷ part) =
     elim (is_empty plan && length part == length diff) as (λ b. IsActionOf (d ∷ part) (cond b Commit (Rebase (d ∷ part)))) [ true ↦ tt | false ↦ refl ]
 
 -- a presence isn't the document's
-pub presence_apart : {F : Type 0} (schemas : Schemas F) → AreLawful schemas → (session : ℕ) → schemas.is_document (presence_id session) ≡ false
+pub presence_apart : (schemas : Schemas) → AreLawful schemas → (session : ℕ) → schemas.is_document (presence_id session) ≡ false
 presence_apart schemas lawful session =
     elim (schemas.is_document (presence_id session)) as (λ b. schemas.is_document (presence_id session) ≡ b → b ≡ false) [
       | true ↦ λ is. sym (lawful.presence session) ∙ lawful.apart (presence_id session) is
       | false ↦ λ is. refl
     ] refl
 
-module _ {F : Type 0} (schemas : Schemas F) (lawful : AreLawful schemas) (member : Member) (m : Pairs) where
+module _ (schemas : Schemas) (lawful : AreLawful schemas) (member : Member) (m : Pairs) where
   -- what is accepted of a presence acts
   presence_acts : (c : RecordOpTree) (d : RecordOpTree) → presence_part schemas member m c ≡ Some d → acts_on schemas.admits (presence_id member.session) d (value_at m (presence_id member.session)) ≡ true
   presence_acts (put r) d = λ is. ap (λ o. option_map_or (λ e. acts_on schemas.admits (presence_id member.session) e (value_at m (presence_id member.session))) o true) (sym is)
@@ -236,7 +236,7 @@ module _ {F : Type 0} (schemas : Schemas F) (lawful : AreLawful schemas) (member
       ] (left _ _ taken)
 
 -- the entry that removes a presence acts where the presence is
-pub removal_acts : {F : Type 0} (schemas : Schemas F) → AreLawful schemas → (room : Room) (session : ℕ) → IsActing schemas (records_of room.history) (removal session)
+pub removal_acts : (schemas : Schemas) → AreLawful schemas → (room : Room) (session : ℕ) → IsActing schemas (records_of room.history) (removal session)
 removal_acts schemas lawful room session = record {
   rising = tt;
   acting = refl;

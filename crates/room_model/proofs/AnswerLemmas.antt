@@ -28,7 +28,7 @@ above_parts from to (entry ∷ history) less =
       ] refl
     ] refl
 
-module _ {F : Type 0} (schemas : Schemas F) (session : ℕ) where
+module _ (schemas : Schemas) (session : ℕ) where
   answered-older : (items : List Pending) (newer older : List Entry) → AreAnswered schemas session items (newer ++ older) → AreAnswered schemas session items older
   answered-older items [] older h = h
   answered-older items (entry ∷ newer) older h = answered-older items newer older h.1

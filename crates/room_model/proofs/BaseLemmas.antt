@@ -22,7 +22,7 @@ pub rising-records : (history : History) → AreRising (records_of history)
 rising-records [] = tt
 rising-records (entry ∷ history) = rising-fold_raw entry.diff (records_of history) (rising-records history)
 
-module _ {F : Type 0} (schemas : Schemas F) where
+module _ (schemas : Schemas) where
   module _ (plan : Plan) where
     abbrev lower : Data → Data
     lower d = schemas.lower plan d

@@ -76,13 +76,13 @@ taken_by n said other = None
 abbrev pub member_of : ℕ → Session → Plan → Member
 member_of n s plan = record { session = n; readonly = s.readonly; plan = plan }
 
-module _ {F : Type 0} (schemas : Schemas F) where
+module _ (schemas : Schemas) where
   -- the entry of a push of a session that has a plan
   abbrev pub pushed_by : Room → ℕ → Session → Plan → Push → Entry
   pushed_by room n s plan push = entry_of schemas (member_of n s plan) (records_of room.history) push
 
 -- what a call does to a room; pushed is the session and its message, if that is a push that was taken
-pub data Step {F : Type 0} (schemas : Schemas F) (pushed : Option (ℕ × ClientMessage)) (room after : Room) : Type 0 where
+pub data Step (schemas : Schemas) (pushed : Option (ℕ × ClientMessage)) (room after : Room) : Type 0 where
   nothing : pushed ≡ None → after ≡ room → Step schemas pushed room after
   enters : (readonly : Bool) → pushed ≡ None → after ≡ after_enter readonly room → Step schemas pushed room after
   goes : (n : ℕ) (s t : Session) → pushed ≡ None → slice_get room.sessions n ≡ Some s → Goes (length room.history) s t
@@ -98,7 +98,7 @@ not_either : (a b : Bool) → a ≡ false → b ≡ false → a || b ≡ false
 not_either true b p q = absurd (cc)
 not_either false b p q = q
 
-module _ {F : Type 0} (schemas : Schemas F) (room : Room) where
+module _ (schemas : Schemas) (room : Room) where
   module _ (n : ℕ) (s : Session) (at : slice_get room.sessions n ≡ Some s) where
     refused : (reason : EndReason) → is_over s.phase ≡ false → Step schemas None room (refuse n s reason room).room
     refused reason here = ends n s (ended reason false) refl at here refl refl
@@ -252,7 +252,7 @@ module _ (P : Room → Type 0)
       let now = closed room n s phase at over h in
       elim (is_present n room) as (λ b. P (cond b (end_slow after) after)) [ true ↦ slow_ended (length after.sessions) after now | false ↦ now ]
 
-  module _ {F : Type 0} (schemas : Schemas F) (o : Option (ℕ × ClientMessage))
+  module _ (schemas : Schemas) (o : Option (ℕ × ClientMessage))
       (adds : (room : Room) (readonly : Bool) → P room → P (after_enter readonly room))
       (pushed : (room : Room) (n : ℕ) (s : Session) (sent : ℕ) (plan : Plan) (said : ClientMessage) (push : Push) → o ≡ Some (n, said) → push_of said ≡ Some push
       → slice_get room.sessions n ≡ Some s → s.phase ≡ live sent plan → is_taken schemas (member_of n s plan) push ≡ true → P room
@@ -284,7 +284,7 @@ push_rises (message.Push client_clock diff presence) push says rising = let same
 push_rises message.Ping push says rising = absurd (cc)
 
 -- what each step keeps holds of all rooms that calls make
-pub everywhere : {F : Type 0} (schemas : Schemas F) (P : Room → Type 0) → ((last : ℕ) → P (new_room last))
+pub everywhere : (schemas : Schemas) (P : Room → Type 0) → ((last : ℕ) → P (new_room last))
     → ((o : Option (ℕ × ClientMessage)) → TakenRises o → (room after : Room) → Step schemas o room after → P room → P after) → (room : Room) → Reachable schemas room → P room
 everywhere schemas P begins keeps _ (made last) = begins last
 everywhere schemas P begins keeps _ (entered readonly room after before is) = keeps None tt room after (enter_step schemas room readonly after is) (everywhere schemas P begins keeps room before)

@@ -137,7 +137,7 @@ closed_quick room n s phase over h =
       | false ↦ with_quick room n t (over_quick (start room) (length room.history) phase over) h
     ]
 
-step_quick : {F : Type 0} (schemas : Schemas F) (o : Option (ℕ × ClientMessage)) (room after : Room) → Step schemas o room after → NoneSlow room → NoneSlow after
+step_quick : (schemas : Schemas) (o : Option (ℕ × ClientMessage)) (room after : Room) → Step schemas o room after → NoneSlow room → NoneSlow after
 step_quick schemas o room after (nothing none same) h = subst NoneSlow (sym same) h
 step_quick schemas o room after (enters readonly none same) h =
     let s : Session = record { readonly = readonly; pings = 0; phase = new } in
@@ -197,7 +197,7 @@ entered_below room readonly h = λ number t at.
       | inr before ↦ h number t before
     ]
 
-step_below : {F : Type 0} (schemas : Schemas F) (o : Option (ℕ × ClientMessage)) (room after : Room) → Step schemas o room after → AreSentBelow room → AreSentBelow after
+step_below : (schemas : Schemas) (o : Option (ℕ × ClientMessage)) (room after : Room) → Step schemas o room after → AreSentBelow room → AreSentBelow after
 step_below schemas o room after step h =
     step_keeps AreSentBelow with_below (λ r n is. more_below r (removal n)) schemas o entered_below
     (λ r n s sent plan said push some says at is taken. more_below r (pushed_by schemas r n s plan push)) room after step h
@@ -230,7 +230,7 @@ near_quick start clock (live sent plan) h = let low = h.1 in not_both (nat_lt se
 near_quick start clock (ended reason told) h = refl
 near_quick start clock gone h = refl
 
-pub step_near : {F : Type 0} (schemas : Schemas F) (o : Option (ℕ × ClientMessage)) (room after : Room) → Step schemas o room after → AreSentNear room → AreSentNear after
+pub step_near : (schemas : Schemas) (o : Option (ℕ × ClientMessage)) (room after : Room) → Step schemas o room after → AreSentNear room → AreSentNear after
 step_near schemas o room after step h =
     let below = step_below schemas o room after step (λ number s at. near_below (start room) (length room.history) s.phase (h number s at)) in
     let quick = step_quick schemas o room after step (λ number s at. near_quick (start room) (length room.history) s.phase (h number s at)) in
@@ -239,5 +239,5 @@ step_near schemas o room after step h =
 pub new_near : (last : ℕ) → AreSentNear (new_room last)
 new_near last = λ number s at. absurd (cc)
 
-pub reachable_near : {F : Type 0} (schemas : Schemas F) (room : Room) → Reachable schemas room → AreSentNear room
+pub reachable_near : (schemas : Schemas) (room : Room) → Reachable schemas room → AreSentNear room
 reachable_near schemas room h = everywhere schemas AreSentNear new_near (λ o rises r after. step_near schemas o r after) room h

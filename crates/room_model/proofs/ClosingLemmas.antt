@@ -191,7 +191,7 @@ after_closes room n s phase at here over =
       | false ↦ close_then room n s phase at here over 0 ([], itself after)
     ]
 
-module _ {F : Type 0} (schemas : Schemas F) (room : Room) where
+module _ (schemas : Schemas) (room : Room) where
   step_closes : (o : Option (ℕ × ClientMessage)) (after : Room) → Step schemas o room after → o ≡ None → (ks : List ℕ) × IsClosing room after ks
   step_closes o after (nothing none same) is = ([], subst (λ r. IsClosing room r []) (sym same) (itself room))
   step_closes o after (enters readonly none same) is =
@@ -240,7 +240,7 @@ removals_long (k ∷ ks) history = let h = removals_long ks (removal k ∷ histo
 pub closing_clock : (before after : Room) (ks : List ℕ) → IsClosing before after ks → length after.history ≡ length ks + length before.history
 closing_clock before after ks h = ap length h.appended ∙ removals_long ks before.history
 
-pub appends_clock : {F : Type 0} (schemas : Schemas F) (room : Room) (n : ℕ) (said : ClientMessage) (reply : Handled) (after : Room) (ks : List ℕ)
+pub appends_clock : (schemas : Schemas) (room : Room) (n : ℕ) (said : ClientMessage) (reply : Handled) (after : Room) (ks : List ℕ)
     → Appends schemas room n said reply after ks → length after.history ≡ count_taken reply + length ks + length room.history
 appends_clock schemas room n said Taken after ks h = let e = closing_clock _ after ks h.2 in omega arith
 appends_clock schemas room n said Entered after ks h = let e = closing_clock room after ks h in omega arith

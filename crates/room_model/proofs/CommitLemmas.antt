@@ -30,7 +30,7 @@ action_commits (place ∷ plan) [] part none = none refl
 action_commits (place ∷ plan) (c ∷ diff) [] none = tt
 action_commits (place ∷ plan) (c ∷ diff) (d ∷ part) none = tt
 
-module _ {F : Type 0} (schemas : Schemas F) where
+module _ (schemas : Schemas) where
   none_commit : (number : ℕ) (plan : Plan) (history : History) → NoneBy number history → AllCommit schemas number plan history
   none_commit number plan [] h = tt
   none_commit number plan (entry ∷ history) h = (λ author by is. absurd (h.0 author by is), none_commit number plan history h.1)

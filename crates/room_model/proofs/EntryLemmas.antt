@@ -16,7 +16,7 @@ use Rattle.room_model.proofs.ActingLemmas.{or_left, or_right, all-imp, own_itsel
 use Rattle.room_model.proofs.CallLemmas.{member_of, pushed_by, step_keeps, TakenRises, push_rises, everywhere}
 
 -- every entry acts
-pub reachable_acts : {F : Type 0} (schemas : Schemas F) (room : Room) → AreLawful schemas → Reachable schemas room → AllActing schemas room.history
+pub reachable_acts : (schemas : Schemas) (room : Room) → AreLawful schemas → Reachable schemas room → AllActing schemas room.history
 reachable_acts schemas room lawful h =
     let P : Room → Type 0 = λ r. AllActing schemas r.history in
     everywhere schemas P (λ last. tt)
@@ -40,7 +40,7 @@ found_added [] k y u found = absurd (cc)
 found_added (x ∷ xs) zero y u found = found
 found_added (x ∷ xs) (suc k) y u found = found_added xs k y u found
 
-module _ {F : Type 0} (schemas : Schemas F) where
+module _ (schemas : Schemas) where
   carried : (old next : List Session) → ((k : ℕ) (u : Session) → slice_get old k ≡ Some u → (v : Session) × (slice_get next k ≡ Some v) × (v.readonly ≡ u.readonly))
       → (history : History) → AllNamed schemas old history → AllNamed schemas next history
   carried old next on [] all = tt

@@ -27,7 +27,7 @@ length-oldest clock (entry ∷ history) =
       | false ↦ λ is. grind (arith, nat_tests, h)
     ] refl
 
-module _ {F : Type 0} (schemas : Schemas F) (clock : ℕ) where
+module _ (schemas : Schemas) (clock : ℕ) where
   pub acting-oldest : (history : History) → AllActing schemas history → AllActing schemas (oldest clock history)
   acting-oldest [] acts = tt
   acting-oldest (entry ∷ history) acts = elim (nat_lt (length history) clock) as (λ b. AllActing schemas (cond b (entry ∷ history) (oldest clock history))) [ true ↦ acts | false ↦ acting-oldest history acts.1 ]

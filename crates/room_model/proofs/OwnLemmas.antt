@@ -49,7 +49,7 @@ module _ (test : List ℕ → Bool) where
   puts_pass f (p ∷ m) diff all h =
       puts_pass f m (with_key diff p.0 (put (f p.1))) (right _ _ all) (all-with_key (λ c. test c.0) diff p.0 (put (f p.1)) h (left _ _ all))
 
-module _ {F : Type 0} (schemas : Schemas F) (lawful : AreLawful schemas) where
+module _ (schemas : Schemas) (lawful : AreLawful schemas) where
   -- an id of the document is no presence's
   documents_others : (session : ℕ) (id : List ℕ) → schemas.is_document id ≡ true → not (is_own session id) ≡ true
   documents_others session id is = elim (is_own session id) as (λ b. is_own session id ≡ b → not b ≡ true) [

@@ -85,10 +85,10 @@ as_it_is None = refl
 as_it_is (Some x) = refl
 
 -- a client admits what the room does if its plan is empty
-abbrev AdmitsSame : {F : Type 0} → Schemas F → Plan → (List ℕ → Data → Bool) → Type 0
+abbrev AdmitsSame : Schemas → Plan → (List ℕ → Data → Bool) → Type 0
 AdmitsSame schemas plan admits = plan ≡ [] → (id : List ℕ) (d : Data) → admits id d ≡ schemas.admits id d
 
-module _ {F : Type 0} (schemas : Schemas F) (lawful : AreLawful schemas) (session : ℕ) where
+module _ (schemas : Schemas) (lawful : AreLawful schemas) (session : ℕ) where
   -- the session's own presence isn't the document's
   own_apart : (q : List ℕ) → is_own session q ≡ true → schemas.is_document q ≡ false
   own_apart q own = ap schemas.is_document ((bytes_eq-Decides q (presence_id session)).0 own) ∙ presence_apart schemas lawful session
@@ -146,7 +146,7 @@ module _ {F : Type 0} (schemas : Schemas F) (lawful : AreLawful schemas) (sessio
       ∙ told_none (told_op schemas (place ∷ plan) after q) (value_at diff q) (schemas.is_document q) (schemas.is_presence q) (is_own session q)
       (sym (at-filter schemas.is_document diff q) ∙ ap (λ ops. value_at ops q) none) named
 
-module _ {F : Type 0} (schemas : Schemas F) (lawful : AreLawful schemas) (member : Member) where
+module _ (schemas : Schemas) (lawful : AreLawful schemas) (member : Member) where
   abbrev is_mine : Entry → Bool
   is_mine entry = is_by member.session entry
 

@@ -61,7 +61,7 @@ action_of plan [] part = Commit
 action_of plan (c ∷ diff) [] = Discard
 action_of plan (c ∷ diff) (d ∷ part) = if is_empty plan && length part == length diff then Commit else Rebase (d ∷ part)
 
-module _ {F : Type 0} (schemas : Schemas F) where
+module _ (schemas : Schemas) where
   -- what an operation puts is admitted under the id
   abbrev pub is_put_admitted : List ℕ → RecordOpTree → Bool
   is_put_admitted id (put d) = schemas.admits id d

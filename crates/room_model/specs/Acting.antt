@@ -24,7 +24,7 @@ abbrev pub IsCommitOf : Plan → RecordOps → Action → Type 0
 IsCommitOf (place ∷ plan) part Commit = part ≡ []
 IsCommitOf plan part action = Unit {0}
 
-module _ {F : Type 0} (schemas : Schemas F) where
+module _ (schemas : Schemas) where
   -- the part of a diff that names ids of the document
   abbrev pub document_ops : RecordOps → RecordOps
   document_ops diff = filter (λ c. schemas.is_document c.0) diff

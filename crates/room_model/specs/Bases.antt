@@ -15,7 +15,7 @@ use Rattle.room_model.specs.declared.history.Entry.{Entry}
 use Rattle.sync_msgs.specs.declared.data_event.Action.TheVariants.{Commit}
 use Rattle.sync_msgs.specs.declared.data_event.DataEvent.{DataEvent}
 
-module _ {F : Type 0} (schemas : Schemas F) where
+module _ (schemas : Schemas) where
   -- a session's base has the document's ids and the presence of others
   abbrev pub is_told : ℕ → List ℕ → Bool
   is_told session id = schemas.is_document id || schemas.is_presence id && not (is_own session id)

@@ -59,7 +59,7 @@ pub record IsClosing (before after : Room) (closed : List ℕ) : Type 0 where
   -- whoever was open before and is closed afterwards, also of those that had no presence then, has none afterwards
   pub gone : (number : ℕ) → was_open before number ≡ true → is_closed after number ≡ true → is_present number after ≡ false
 
-module _ {F : Type 0} (schemas : Schemas F) where
+module _ (schemas : Schemas) where
   -- an entry is that of a message, which is a push of a live session
   pub record IsPushed (room : Room) (number : ℕ) (said : ClientMessage) (entry : Entry) : Type 0 where
     pub session : Session

@@ -38,7 +38,7 @@ abbrev pub hydration : Option ℕ → Hydration
 hydration None = WipeAll
 hydration (Some reached) = WipePresence
 
-module _ {F : Type 0} (schemas : Schemas F) where
+module _ (schemas : Schemas) where
   -- what records have under an id, as a session sees it: a put of the record taken down, or a remove
   abbrev pub state_op : Plan → Pairs → List ℕ → RecordOpTree
   state_op plan m id = option_map_or (λ d. put (schemas.lower plan d)) (value_at m id) remove

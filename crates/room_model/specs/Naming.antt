@@ -41,7 +41,7 @@ abbrev pub gives_others : ℕ → Out → Bool
 gives_others session (Message said) = tells_others session said
 gives_others session (End reason) = true
 
-module _ {F : Type 0} (schemas : Schemas F) where
+module _ (schemas : Schemas) where
   -- what the diff of an entry names, whose author is the session of a number
   pub record IsNamedBy (sessions : List Session) (number : ℕ) (diff : RecordOps) : Type 0 where
     -- the session has entered

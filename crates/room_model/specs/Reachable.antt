@@ -19,7 +19,7 @@ IsRising (message.Push client_clock diff presence) = AreRising (pushed_diff diff
 IsRising message.Ping = Unit {0}
 
 -- the rooms that calls make, each from one that calls made before
-pub data Reachable {F : Type 0} (schemas : Schemas F) : Room → Type 0 where
+pub data Reachable (schemas : Schemas) : Room → Type 0 where
   made : (last : ℕ) → Reachable schemas (new_room last)
   entered : (readonly : Bool) (room after : Room) → Reachable schemas room → enter readonly room ≡ Some after → Reachable schemas after
   received : (session : ℕ) (said : ClientMessage) (room : Room) (replied : Replied)

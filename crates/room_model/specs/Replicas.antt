@@ -6,7 +6,7 @@ use Rattle.field_ops.specs.RecordOps.{put, RecordOps}
 use Rattle.field_ops.specs.ViewRecordOps.{op_of}
 use Rattle.doc_model.specs.Documents.{replay}
 use Rattle.doc_model.specs.Marks.{Marks, no_marks}
-use Rattle.room_model.specs.Schemas.{Schemas, ClientSchema, Plan, doc, seen_along}
+use Rattle.room_model.specs.Schemas.{ClientSchema, WorldSchemas, Plan, doc, seen_along}
 use Rattle.room_model.specs.Histories.{History, records_of, up_to, oldest, above, is_by}
 use Rattle.room_model.specs.Messages.{others_of}
 use Rattle.room_model.specs.Rooms.{Notice, snapshot_at, updates_between, pong, end}
@@ -189,18 +189,18 @@ after_notice history session client (updates_between from to) = push_none (after
 after_notice history session client pong = push_none client
 after_notice history session client (end reason) = push_none (after_end reason client)
 
-module _ {F : Type 0} (schemas : Schemas F) where
+module _ {F : Type 0} (schemas : WorldSchemas F) where
   -- what a client's schema decides
   abbrev pub schema_of : Client → ClientSchema F
   schema_of client = schemas.client client.version
 
   -- the plan from a client's schema to the room's, or the reason for which the room won't have it
   abbrev pub plan_of : Client → Result Plan EndReason
-  plan_of client = schemas.plan_for (schema_of client).versions
+  plan_of client = schemas.room.plan_for (schema_of client).versions
 
   -- records as they are seen by somebody with a plan; who has none never sees any, and they are as they are
   abbrev pub seen_by : Result Plan EndReason → Pairs → Pairs
-  seen_by (Ok plan) m = seen_along schemas plan m
+  seen_by (Ok plan) m = seen_along schemas.room plan m
   seen_by (Err reason) m = m
 
   -- the room's records at the clock that a client has reached
@@ -209,7 +209,7 @@ module _ {F : Type 0} (schemas : Schemas F) where
 
   -- the base of a client: the document of those, seen at its version
   abbrev pub base_of : History → Client → Pairs
-  base_of history client = seen_by (plan_of client) (doc schemas (reached_records history client))
+  base_of history client = seen_by (plan_of client) (doc schemas.room (reached_records history client))
 
   -- what a client shows: the room's accepted operations folded to the clock that it has reached, seen at its version, with its own
   -- pending edits replayed
@@ -220,7 +220,7 @@ module _ {F : Type 0} (schemas : Schemas F) where
   abbrev pub others_by : History → Client → Connection → Pairs
   others_by history client Off = []
   others_by history client (Asking session) = []
-  others_by history client (Open session) = seen_by (plan_of client) (others_of schemas session (reached_records history client))
+  others_by history client (Open session) = seen_by (plan_of client) (others_of schemas.room session (reached_records history client))
 
   -- the same, by the client's connection
   abbrev pub others : History → Client → Pairs

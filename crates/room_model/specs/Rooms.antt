@@ -183,7 +183,7 @@ after_plan number session ask room (Ok plan) =
     record { reply = Entered; room = with_session number (record session { phase = asked ask.request ask.reached plan }) room }
 after_plan number session ask room (Err reason) = refuse number session reason room
 
-module _ {F : Type 0} (schemas : Schemas F) where
+module _ (schemas : Schemas) where
   -- a new session asks to be connected; one that isn't new is ended
   abbrev pub after_connect : ℕ → Session → Ask → Room → Phase → Replied
   after_connect number session ask room new =
@@ -252,7 +252,7 @@ pong_or session later =
     then Some (record { out = Message reply.Pong; notice = pong; after = record session { pings = session.pings - 1 } })
     else later
 
-module _ {F : Type 0} (schemas : Schemas F) where
+module _ (schemas : Schemas) where
   -- what a session in some phase is given next, if anything
   abbrev pub next_in : Room → ℕ → Session → Phase → Option Given
   next_in room number session (ended reason false) =

@@ -10,7 +10,7 @@ use Rattle.field_ops.specs.RecordOps.{RecordOps}
 use Rattle.doc_model.specs.Inverses.{inverse_diff}
 use Rattle.doc_model.specs.Marks as marks
 use Rattle.doc_model.specs.Marks.{Marks}
-use Rattle.room_model.specs.Schemas.{Schemas, doc, pres}
+use Rattle.room_model.specs.Schemas.{WorldSchemas, doc, pres}
 use Rattle.room_model.specs.Histories.{History, records_of}
 use Rattle.room_model.specs.Rooms.{Room, new_room, after_enter, is_full, session_at, Replied, after_message, after_leave, Notice, snapshot_at, updates_between, pong, end, Given, next_for, after_drain}
 use Rattle.room_model.specs.Replicas.{Client, new_client, session_of, Pushing, after_edit, after_diff, after_presence, after_cut, after_notice, schema_of, shown_document, others}
@@ -162,7 +162,7 @@ module _ {F : Type 0} where
       option_map_or (λ session. at_channel session world (λ channel. deliver_first number session world client channel channel.to_client))
       (session_of client.connection) (Err NoSuchSession))
 
-module _ {F : Type 0} (schemas : Schemas F) where
+module _ {F : Type 0} (schemas : WorldSchemas F) where
   -- a client that has no session asks for one: a session enters, and its number, the client's clock and its schema go to the room
   abbrev pub ask : ℕ → Bool → World → Client → World
   ask number readonly world client =
@@ -251,7 +251,7 @@ module _ {F : Type 0} (schemas : Schemas F) where
   handle_first trace session world channel (said ∷ messages) =
       happens (trace_line trace (line.From session said))
       (with_channel session (record channel { to_room = messages })
-      (record world { room = option_map_or (λ a. a.room) (after_message schemas world.room session said) world.room }))
+      (record world { room = option_map_or (λ a. a.room) (after_message schemas.room world.room session said) world.room }))
 
   -- the same, of a session that is in the room
   abbrev pub on_handle : Bool → ℕ → World → Outcome F
@@ -265,7 +265,7 @@ module _ {F : Type 0} (schemas : Schemas F) where
       happens (trace_line trace (out_line session given.out))
       (with_channel session (record channel { to_client = channel.to_client ++ given.notice ∷ [] })
       (record world { room = after_drain world.room session given })))
-      (next_for schemas world.room session) (Err NothingThere))
+      (next_for schemas.room world.room session) (Err NothingThere))
 
   -- the line by which a client shows what it has
   abbrev pub show_line : ℕ → World → Client → OutLine
@@ -280,7 +280,7 @@ module _ {F : Type 0} (schemas : Schemas F) where
   abbrev pub end_line : World → OutLine
   end_line world =
       let m = records_of world.room.history in
-      line.End (pos (length world.room.history)) (map_val (doc schemas m)) (map_val (pres schemas m))
+      line.End (pos (length world.room.history)) (map_val (doc schemas.room m)) (map_val (pres schemas.room m))
 
   -- what an event makes of a world
   abbrev pub after_event : Bool → World → Event → Outcome F

@@ -2,9 +2,10 @@
 //! accepted, which messages follow from a history, what each event makes of a room, its clients and what is in flight
 //! between them, and what is printed.
 //!
-//! What schemas decide is an argument of all of them, as one record of functions, so that they hold at any version. The
-//! crate has definitions in `specs/`, the types that they share with the code, and laws as functions without code. It
-//! stands on `rooms_val`, `field_ops`, `doc_model`, `migrate_seq` and `sync_msgs`.
+//! What schemas decide is an argument of all of them, so that they hold at any version: what the room's schema does is one
+//! of rooms, and what it and those of clients do one of worlds. The crate has definitions in `specs/`, the types that they
+//! share with the code, and laws as functions without code. It stands on `rooms_val`, `field_ops`, `doc_model`,
+//! `migrate_seq` and `sync_msgs`.
 #![tactic(auto)]
 
 pub mod accepting;

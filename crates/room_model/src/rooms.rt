@@ -12,39 +12,39 @@ ghost use Rattle.sync_msgs.specs.declared.client_message.ClientMessage.{ClientMe
 
 /// Where the sent clocks of live sessions lie: it is so in a new room, each call keeps it, and so
 /// it holds in every room that calls make.
-pub fn sent_clocks_lie_near<F: Drop>()
+pub fn sent_clocks_lie_near()
     ensures begins { (last : ℕ) → AreSentNear (new_room last) }
     ensures enters { (readonly : Bool) (room : Room)
         → AreSentNear room → AreSentNear (after_enter readonly room) }
-    ensures receives { (schemas : Schemas F) (session : ℕ) (said : ClientMessage) (room : Room)
+    ensures receives { (schemas : Schemas) (session : ℕ) (said : ClientMessage) (room : Room)
         (replied : Replied) → after_message schemas room session said ≡ Some replied
         → AreSentNear room → AreSentNear replied.room }
-    ensures drains { (schemas : Schemas F) (session : ℕ) (given : Given) (room : Room)
+    ensures drains { (schemas : Schemas) (session : ℕ) (given : Given) (room : Room)
         → next_for schemas room session ≡ Some given
         → AreSentNear room → AreSentNear (after_drain room session given) }
-    ensures leaves { (schemas : Schemas F) (session : ℕ) (room after : Room)
+    ensures leaves { (schemas : Schemas) (session : ℕ) (room after : Room)
         → after_leave room session ≡ Some after → AreSentNear room → AreSentNear after }
-    ensures always { (schemas : Schemas F) (room : Room)
+    ensures always { (schemas : Schemas) (room : Room)
         → Reachable schemas room → AreSentNear room }
 {}
 
 /// What a session is given names no presence of its own.
-pub fn gives_nothing_of_its_own<F: Drop>()
-    ensures { (schemas : Schemas F) (room : Room) (session : ℕ) (given : Given)
+pub fn gives_nothing_of_its_own()
+    ensures { (schemas : Schemas) (room : Room) (session : ℕ) (given : Given)
         → AreLawful schemas → next_for schemas room session ≡ Some given
         → gives_others session given.out ≡ true }
 {}
 
 /// Each entry of a room that calls make acts where it stands.
-pub fn entries_act<F: Drop>()
-    ensures { (schemas : Schemas F) (room : Room)
+pub fn entries_act()
+    ensures { (schemas : Schemas) (room : Room)
         → AreLawful schemas → Reachable schemas room → AllActing schemas room.history }
 {}
 
 /// In a room that calls make the commits of a live session have what they say: at an older schema
 /// nothing was accepted.
-pub fn commits_have_what_they_say<F: Drop>()
-    ensures { (schemas : Schemas F) (room : Room) (number : ℕ) (session : Session) (sent : ℕ)
+pub fn commits_have_what_they_say()
+    ensures { (schemas : Schemas) (room : Room) (number : ℕ) (session : Session) (sent : ℕ)
         (plan : Plan) → AreLawful schemas → Reachable schemas room
         → slice_get room.sessions number ≡ Some session → session.phase ≡ live sent plan
         → AllCommit schemas number plan room.history }
@@ -53,23 +53,23 @@ pub fn commits_have_what_they_say<F: Drop>()
 /// In a room that calls make the author of an entry has entered, and the entry names ids of the
 /// document and its author's presence alone; that of a read-only session names no id of the
 /// document.
-pub fn entries_name_their_own<F: Drop>()
-    ensures { (schemas : Schemas F) (room : Room) → AreLawful schemas → Reachable schemas room
+pub fn entries_name_their_own()
+    ensures { (schemas : Schemas) (room : Room) → AreLawful schemas → Reachable schemas room
         → AllNamed schemas room.sessions room.history }
 {}
 
 /// What moves the clock: the entry of a push that is taken, and the removals of the presence of
 /// sessions that are ended or leave; nothing else.
-pub fn clocks_move_by_closing<F: Drop>()
-    ensures receives { (schemas : Schemas F) (session : ℕ) (said : ClientMessage) (room : Room)
+pub fn clocks_move_by_closing()
+    ensures receives { (schemas : Schemas) (session : ℕ) (said : ClientMessage) (room : Room)
         (replied : Replied) → after_message schemas room session said ≡ Some replied
         → (closed : List ℕ)
         × Appends schemas room session said replied.reply replied.room closed }
-    ensures receives_clock { (schemas : Schemas F) (session : ℕ) (said : ClientMessage)
+    ensures receives_clock { (schemas : Schemas) (session : ℕ) (said : ClientMessage)
         (room after : Room) (reply : Handled) (closed : List ℕ)
         → Appends schemas room session said reply after closed
         → length after.history ≡ count_taken reply + length closed + length room.history }
-    ensures leaves { (schemas : Schemas F) (session : ℕ) (room after : Room)
+    ensures leaves { (schemas : Schemas) (session : ℕ) (room after : Room)
         → after_leave room session ≡ Some after
         → (closed : List ℕ) × IsClosing room after closed }
     ensures closing_clock { (before after : Room) (closed : List ℕ)

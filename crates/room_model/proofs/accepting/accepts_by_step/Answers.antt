@@ -2,4 +2,4 @@ use Rattle.room_model.proofs.AcceptLemmas.{folded-accepted}
 use Rattle.room_model.proofs.accepting.accepts_by_step.Goals as goal
 
 pub returns : goal.returns
-returns g c = folded-accepted
+returns c = folded-accepted

@@ -2,4 +2,4 @@ use Rattle.room_model.proofs.ActingLemmas.{removal_acts}
 use Rattle.room_model.proofs.acting.removals_act.Goals as goal
 
 pub returns : goal.returns
-returns g c = removal_acts
+returns c = removal_acts

@@ -3,11 +3,11 @@ use Rattle.room_model.proofs.LookUpLemmas.{rising-filter}
 use Rattle.room_model.proofs.bases.snapshots_bring_bases.Goals as goal
 
 pub returns-clause-whole : goal.returns-clause-whole
-returns-clause-whole g c = wiped_all
+returns-clause-whole c = wiped_all
 
 pub returns-clause-since : goal.returns-clause-since
-returns-clause-since g c schemas admits member clock history base rising agrees =
+returns-clause-since c schemas admits member clock history base rising agrees =
     wiped_presence schemas admits member history clock base (rising-filter schemas.is_document base rising) agrees
 
 pub returns-clause-reached : goal.returns-clause-reached
-returns-clause-reached g c = hydrated
+returns-clause-reached c = hydrated

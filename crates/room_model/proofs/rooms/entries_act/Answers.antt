@@ -2,4 +2,4 @@ use Rattle.room_model.proofs.EntryLemmas.{reachable_acts}
 use Rattle.room_model.proofs.rooms.entries_act.Goals as goal
 
 pub returns : goal.returns
-returns g c = reachable_acts
+returns c = reachable_acts
