@@ -17,7 +17,7 @@ use Rattle.doc_model.specs.Restoring.{Restores, AreBackAdmitted}
 use Rattle.doc_model.proofs.InverseLemmas.{rising-step}
 use Rattle.doc_model.proofs.ReplayLemmas.{replay-push}
 use Rattle.doc_model.proofs.RestoreLemmas.{mark_restores, other_keeps, edit_keeps, bail_restores, undo_is_bail}
-use Rattle.room_model.specs.Schemas.{Schemas, AreLawful, doc}
+use Rattle.room_model.specs.Schemas.{WorldSchemas, AreLawfulTogether, doc}
 use Rattle.room_model.specs.Histories.{records_of, up_to}
 use Rattle.room_model.specs.Rooms.{Notice, next_for}
 use Rattle.room_model.specs.Replicas.{after_end, after_notice, Work, edit, presence, Pending, Client, new_client, is_open, session_of, diff_in, pending_diffs, Pushing, push_none, push_all, push_times, next_push, send_first, with_work, unsent, all_unsent, after_diff, after_presence, after_cut, schema_of, plan_of, seen_by, base_of}
@@ -93,7 +93,7 @@ worked_on c e work version reached pending =
       diffs_are = diffs_worked e work ∙ ap (λ items. diffs_of items ++ diffs_of (unsent work ∷ [])) pending;
     }
 
-module _ {F : Type 0} (schemas : Schemas F) (w : World) (n : ℕ) (c : Client) (at : slice_get w.clients n ≡ Some c) where
+module _ {F : Type 0} (schemas : WorldSchemas F) (w : World) (n : ℕ) (c : Client) (at : slice_get w.clients n ≡ Some c) where
   -- what the client shows by these diffs
   abbrev shows : List RecordOps → Pairs
   shows diffs = replay (schema_of schemas c).admits (base_of schemas w.room.history c) diffs
@@ -102,13 +102,13 @@ module _ {F : Type 0} (schemas : Schemas F) (w : World) (n : ℕ) (c : Client) (
   shown_on : (v : World) (d : Client) (ms : Marks) (diffs : List RecordOps) → GoesOn c d ms diffs → up_to c.reached v.room.history ≡ up_to c.reached w.room.history → shown_in schemas v d ≡ shows diffs
   shown_on v d ms diffs on stays =
       let part : up_to d.reached v.room.history ≡ up_to c.reached w.room.history = ap (λ r. up_to r v.room.history) on.reached ∙ stays in
-      λ i. replay (schemas.client (on.version i)).admits (seen_by schemas (schemas.plan_for (schemas.client (on.version i)).versions) (doc schemas (records_of (part i)))) (on.diffs_are i)
+      λ i. replay (schemas.client (on.version i)).admits (seen_by schemas (schemas.room.plan_for (schemas.client (on.version i)).versions) (doc schemas.room (records_of (part i)))) (on.diffs_are i)
 
   rising_base : AreRising (base_of schemas w.room.history c)
   rising_base =
       let m = records_of (up_to c.reached w.room.history) in
       let rising = rising-records (up_to c.reached w.room.history) in
-      elim (plan_of schemas c) as (λ o. AreRising (seen_by schemas o (doc schemas m))) [ Ok plan ↦ rising-seen_with schemas plan schemas.is_document m rising | Err reason ↦ rising-filter schemas.is_document m rising ]
+      elim (plan_of schemas c) as (λ o. AreRising (seen_by schemas o (doc schemas.room m))) [ Ok plan ↦ rising-seen_with schemas.room plan schemas.room.is_document m rising | Err reason ↦ rising-filter schemas.room.is_document m rising ]
 
   rising_replay : (admits : List ℕ → Data → Bool) (diffs : List RecordOps) (m : Pairs) → AreRising m → AreRising (replay admits m diffs)
   rising_replay admits [] m rising = rising
@@ -181,7 +181,7 @@ module _ {F : Type 0} (schemas : Schemas F) (w : World) (n : ℕ) (c : Client) (
       | false ↦ set_spared m e (record e { connection = Asking (length w.room.sessions) }) there (λ it same. same_on e _ it refl refl refl refl)
     ]
 
-    edit_spared : AreLawful schemas → (m : ℕ) (e : Client) (wanted : RecordOps) → slice_get w.clients m ≡ Some e → (o : Result RecordOps F)
+    edit_spared : AreLawfulTogether schemas → (m : ℕ) (e : Client) (wanted : RecordOps) → slice_get w.clients m ≡ Some e → (o : Result RecordOps F)
         → (schema_of schemas e).complete (shown_in schemas w e) wanted ≡ o → Holds IsSpared (take_edit schemas m w e o)
     edit_spared lawful m e wanted there (Err fault) is = tt
     edit_spared lawful m e wanted there (Ok diff) is =
@@ -198,7 +198,7 @@ module _ {F : Type 0} (schemas : Schemas F) (w : World) (n : ℕ) (c : Client) (
         let on : GoesOn e d (marks.after_mark other e.marks) (pending_diffs e) = record { version = refl; reached = refl; marks_are = refl; diffs_are = refl } in
         marks_other other (apart same) (subst (λ x. GoesOn x d (marks.after_mark other x.marks) (pending_diffs x)) it on))
 
-    module _ (lawful : AreLawful schemas) where
+    module _ (lawful : AreLawfulTogether schemas) where
       in_client : (m : ℕ) (next : Client → Outcome F) → ((e : Client) → slice_get w.clients m ≡ Some e → Holds IsSpared (next e)) → Holds IsSpared (at_client m w next)
       in_client m next k = from_option IsSpared next (slice_get w.clients m) _ (λ none. tt) k
 
@@ -223,7 +223,7 @@ module _ {F : Type 0} (schemas : Schemas F) (w : World) (n : ℕ) (c : Client) (
         | [] ↦ tt
         | (said ∷ messages) ↦ itself
       ])
-      spared trace (event.Send k) h = in_session IsSpared k w _ (λ s channel there on. from_option IsSpared _ (next_for schemas w.room k) _ (λ none. tt) (λ given is. itself))
+      spared trace (event.Send k) h = in_session IsSpared k w _ (λ s channel there on. from_option IsSpared _ (next_for schemas.room w.room k) _ (λ none. tt) (λ given is. itself))
       spared trace (event.Deliver m) h =
           in_client m _ (λ e there. from_option IsSpared _ (session_of e.connection) _ (λ none. tt) (λ k is. from_option IsSpared _ (slice_get w.channels k) _ (λ none. tt) (λ channel on.
           elim channel.to_client as (λ ns. channel.to_client ≡ ns → Holds {F = F} IsSpared (deliver_first m k w e channel ns)) [
@@ -302,7 +302,7 @@ module _ {F : Type 0} (schemas : Schemas F) (w : World) (n : ℕ) (c : Client) (
         (subst (λ d. Shows before (after_marked schemas n w c d (marks.after_undo (inverse_in schemas w c d) c.marks))) same
         (back_shows (marks.after_undo (inverse_in schemas w c diff) c.marks) diff before done))))
 
-module _ {F : Type 0} (schemas : Schemas F) where
+module _ {F : Type 0} (schemas : WorldSchemas F) where
   pub mark_brings : (trace : Bool) (w : World) (n : ℕ) (name : List ℕ) (c : Client) (made : Stepped) → slice_get w.clients n ≡ Some c
       → after_event schemas trace w (event.Mark n name) ≡ Ok made → BringsBack schemas made.world n name (shown_in schemas w c)
   mark_brings trace w n name c made at is =
@@ -316,7 +316,7 @@ module _ {F : Type 0} (schemas : Schemas F) where
         restores = subst (λ x. Restores name (marks.after_mark name e.marks) (shown_in schemas w e) (shown_in schemas w x)) it (mark_restores name e.marks (shown_in schemas w e));
       }))
 
-  pub brings_on : (trace : Bool) (w : World) (e : Event) (n : ℕ) (name : List ℕ) (before : Pairs) (made : Stepped) → AreLawful schemas → ReachableWorld schemas w → Spares w n name e
+  pub brings_on : (trace : Bool) (w : World) (e : Event) (n : ℕ) (name : List ℕ) (before : Pairs) (made : Stepped) → AreLawfulTogether schemas → ReachableWorld schemas w → Spares w n name e
       → ShowsSound schemas w n → ShowsSound schemas made.world n → after_event schemas trace w e ≡ Ok made → BringsBack schemas w n name before → BringsBack schemas made.world n name before
   brings_on trace w e n name before made lawful reached spares sound then is h =
       let c = h.client in
@@ -345,7 +345,7 @@ module _ {F : Type 0} (schemas : Schemas F) where
       subst (Holds (Shows schemas w n c at before)) is (undo_shows schemas w n c at name before restores trace diff earlier first more parts found fit) after now
 
   -- ever since
-  module _ (lawful : AreLawful schemas) (n : ℕ) (name : List ℕ) (before : Pairs) where
+  module _ (lawful : AreLawfulTogether schemas) (n : ℕ) (name : List ℕ) (before : Pairs) where
     since : (w : World) → IsSinceMark schemas n name before w → ReachableWorld schemas w × ShowsSound schemas w n × BringsBack schemas w n name before
     since _ (marked trace w c made reached at shows is sound) =
         (stepped trace w (event.Mark n name) made reached is, sound, subst (BringsBack schemas made.world n name) shows (mark_brings trace w n name c made at is))

@@ -1,6 +1,6 @@
 -- Clients that the room wouldn't have.
 use Rattle.std.proofs.Common.{◌≡◌, ◌⊎◌, inl, inr, ℕ, Bool, false, List, [], ◌∷◌, ◌++◌, length, slice_get, Some, None, refl, sym, ap, subst, ◌∙◌, arith}
-use Rattle.room_model.specs.Schemas.{Schemas}
+use Rattle.room_model.specs.Schemas.{WorldSchemas}
 use Rattle.room_model.specs.Histories.{History}
 use Rattle.room_model.specs.Rooms.{asked, live, Session, Room, Notice, snapshot_at, updates_between, pong, end}
 use Rattle.room_model.specs.Replicas.{Client, new_client, is_open, session_of, Pushing, after_cut, after_end, after_notice}
@@ -38,13 +38,13 @@ data_later (updates_between from to) notices h = absurd h
 data_later pong notices h = h
 data_later (end r) notices h = h
 
-module _ {F : Type 0} (schemas : Schemas F) where
+module _ {F : Type 0} (schemas : WorldSchemas F) where
   -- what may be in flight to a client
   abbrev IsTold : Client → List Notice → Type 0
   IsTold c notices = IsFit schemas c ⊎ HasNoData notices
 
   fit_later : (c d : Client) → d.version ≡ c.version → IsFit schemas c → IsFit schemas d
-  fit_later c d version h = (h.0, ap (λ v. schemas.plan_for (schemas.client v).versions) version ∙ h.1)
+  fit_later c d version h = (h.0, ap (λ v. schemas.room.plan_for (schemas.client v).versions) version ∙ h.1)
 
   told_later : (c d : Client) (notices : List Notice) → d.version ≡ c.version → IsTold c notices → IsTold d notices
   told_later c d notices version h = elim h [ inl fit ↦ inl (fit_later c d version fit) | inr none ↦ inr none ]
@@ -193,7 +193,7 @@ module _ {F : Type 0} (schemas : Schemas F) where
     handles = λ w k channel said messages replied made at first is h.
         record { reached = h.reached; told = told_channel w k channel (record channel { to_room = messages }) at refl h.told };
     sends = λ w k channel given made at is h.
-        let on = drain_gives schemas w.room k given is in
+        let on = drain_gives schemas.room w.room k given is in
         record { reached = h.reached; told = told_given w k on.0 channel given.notice given.after made on.1.at at on.2 h.told };
     delivers = λ w n k c channel notice notices made at is there first h.
         let v = with_channel k (record channel { to_client = notices }) w in

@@ -1,6 +1,6 @@
 -- The clocks of worlds that can be reached.
 use Rattle.std.proofs.Common.{◌≡◌, ℕ, ◌≤◌, ℤ, pos, negsuc, List, [], ◌∷◌, ◌++◌, length, Some, refl, sym, subst, ◌∙◌, arith}
-use Rattle.room_model.specs.Schemas.{Schemas}
+use Rattle.room_model.specs.Schemas.{Schemas, WorldSchemas}
 use Rattle.room_model.specs.Histories.{History}
 use Rattle.room_model.specs.Rooms.{Session, Room, Replied, after_message, after_leave, Notice, snapshot_at, updates_between, pong, end}
 use Rattle.room_model.specs.Replicas.{Client, Pushing, after_end, after_notice}
@@ -15,7 +15,7 @@ use Rattle.world_laws.proofs.PushLemmas.{each_set, each_added, snapshot_same, wo
 use Rattle.world_laws.proofs.RoomLemmas.{message_keeps, leave_keeps, Gives, tells_end, answers, pongs, tells, drain_gives}
 
 -- a clock never falls
-pub message_rises : {F : Type 0} (schemas : Schemas F) (room : Room) (n : ℕ) (said : ClientMessage) (replied : Replied) → after_message schemas room n said ≡ Some replied
+pub message_rises : (schemas : Schemas) (room : Room) (n : ℕ) (said : ClientMessage) (replied : Replied) → after_message schemas room n said ≡ Some replied
     → length room.history ≤ length replied.room.history
 message_rises schemas room n said replied is =
     message_keeps (λ r. length room.history ≤ length r.history) (λ r n s t at on less. less) (λ r n is less. omega arith) schemas
@@ -61,7 +61,7 @@ given_within room n s _ _ (answers request reached plan is) = omega arith
 given_within room n s _ _ (pongs some) = tt
 given_within room n s _ _ (tells sent plan is less) = (less, omega arith)
 
-act_reached : {F : Type 0} (schemas : Schemas F) (c : Client) (p : Pushing) → Acts schemas c p → p.client.reached ≡ c.reached
+act_reached : {F : Type 0} (schemas : WorldSchemas F) (c : Client) (p : Pushing) → Acts schemas c p → p.client.reached ≡ c.reached
 act_reached schemas c _ (rests d q) = q.reached
 act_reached schemas c _ (works d work q place rising) = (work_same d work).reached ∙ q.reached
 
@@ -86,7 +86,7 @@ clocks_later w room more h = record {
   told = λ k channel at. all_later (length w.room.history) (length room.history) more channel.to_client (h.told k channel at);
 }
 
-module _ {F : Type 0} (schemas : Schemas F) where
+module _ {F : Type 0} (schemas : WorldSchemas F) where
   clocks_keep : Keeps schemas AreClocks
   clocks_keep = record {
     joins = λ w version made h. record { reached = each_added (AtClock (length w.room.history)) w.clients _ h.reached refl; told = h.told };
@@ -104,10 +104,10 @@ module _ {F : Type 0} (schemas : Schemas F) where
         let now = clocks_later w room (leave_rises w.room room k is) h in
         record { reached = now.reached; told = each_set (Told (length room.history)) w.channels k _ now.told (now.told k channel at) };
     handles = λ w k channel said messages replied made at first is h.
-        let now = clocks_later w replied.room (message_rises schemas w.room k said replied is) h in
+        let now = clocks_later w replied.room (message_rises schemas.room w.room k said replied is) h in
         record { reached = now.reached; told = each_set (Told (length replied.room.history)) w.channels k _ now.told (now.told k channel at) };
     sends = λ w k channel given made at is h.
-        let on = drain_gives schemas w.room k given is in
+        let on = drain_gives schemas.room w.room k given is in
         record {
           reached = h.reached;
           told = each_set (Told (length w.room.history)) w.channels k _ h.told

@@ -24,7 +24,7 @@ pushed_says : (n : ℕ) (work : Work) (push : Push) → closing.push_of (push_of
 pushed_says n (edit diff) push is = (sym (ap (λ (p : Push). p.client_clock) (same_Some _ _ is)), sym (ap (λ (p : Push). p.diff) (same_Some _ _ is)))
 pushed_says n (presence d) push is = (sym (ap (λ (p : Push). p.client_clock) (same_Some _ _ is)), sym (ap (λ (p : Push). p.diff) (same_Some _ _ is)))
 
-module _ {F : Type 0} (schemas : Schemas F) (lawful : AreLawful schemas) where
+module _ (schemas : Schemas) (lawful : AreLawful schemas) where
   document_added : (n : ℕ) (part : RecordOps) (o : Option RecordOpTree) → list_all (λ c. schemas.is_document c.0) part ≡ true → document_ops schemas (added part (presence_id n) o) ≡ part
   document_added n part None all = filter_all schemas.is_document part all
   document_added n part (Some d) all = filter-with_key schemas.is_document part (presence_id n) d all (presence_apart schemas lawful n)

@@ -2,7 +2,7 @@
 use Rattle.std.proofs.Common.{◌≡◌, ℕ, zero, suc, Bool, true, false, ◌||◌, cond, List, [], ◌∷◌, ◌++◌, length, map, drop, filter_map, Option, Some, None, refl, sym, ap, subst}
 use Rattle.std.specs.Prelude.{option_to_list}
 use Rattle.rooms_val.specs.Data.{Data}
-use Rattle.room_model.specs.Schemas.{Schemas, AreLawful}
+use Rattle.room_model.specs.Schemas.{Schemas, WorldSchemas, AreLawfulTogether}
 use Rattle.room_model.specs.Histories.{History}
 use Rattle.room_model.specs.Rooms.{Room, is_full, after_enter, enter, Notice, snapshot_at, updates_between, pong, end}
 use Rattle.room_model.specs.Reachable.{IsRising, Reachable, entered, received, drained, left}
@@ -21,7 +21,7 @@ pub record IsRisingClient (c : Client) : Type 0 where
   pub redos : AreRisingRedos c.marks.redos
 
 -- all that is in a world rises, and calls make its room
-record AreDiffs {F : Type 0} (schemas : Schemas F) (w : World) : Type 0 where
+record AreDiffs (schemas : Schemas) (w : World) : Type 0 where
   room : Reachable schemas w.room
   clients : AtEach IsRisingClient w.clients
   channels : AtEach (λ channel. Each IsRising channel.to_room) w.channels
@@ -87,7 +87,7 @@ or_first : (a b : Bool) → a || b ≡ false → a ≡ false
 or_first true b is = absurd (cc)
 or_first false b is = refl
 
-module _ {F : Type 0} (schemas : Schemas F) (lawful : AreLawful schemas) where
+module _ {F : Type 0} (schemas : WorldSchemas F) (lawful : AreLawfulTogether schemas) where
   work_rises : (c d : Client) (work : Work) → Quiet c d → IsRisingWork work → IsRisingClient c → IsRisingClient (with_work work d)
   work_rises c d work q rising h =
       let e = quiet_rises c d q h in
@@ -97,10 +97,10 @@ module _ {F : Type 0} (schemas : Schemas F) (lawful : AreLawful schemas) where
   act_rises c _ (rests d q) h = record { client = quiet_rises c d q h; messages = tt }
   act_rises c _ (works d work q place rising) h = all_rise (with_work work d) (work_rises c d work q (rising lawful h.redos) h)
 
-  pushing_rises : (w : World) (n : ℕ) (p : Pushing) → IsRisingPushing p → AreDiffs schemas w → AreDiffs schemas (with_pushing n p w)
+  pushing_rises : (w : World) (n : ℕ) (p : Pushing) → IsRisingPushing p → AreDiffs schemas.room w → AreDiffs schemas.room (with_pushing n p w)
   pushing_rises w n p rising h =
       let clients = each_set IsRisingClient w.clients n p.client h.clients rising.client in
-      pushing_keeps (AreDiffs schemas) w n p (record { room = h.room; clients = clients; channels = h.channels }) (λ k channel is at. record {
+      pushing_keeps (AreDiffs schemas.room) w n p (record { room = h.room; clients = clients; channels = h.channels }) (λ k channel is at. record {
         room = h.room;
         clients = clients;
         channels = each_set (λ channel. Each IsRising channel.to_room) w.channels k _ h.channels (each-append IsRising channel.to_room p.messages (h.channels k channel at) rising.messages);
@@ -109,7 +109,7 @@ module _ {F : Type 0} (schemas : Schemas F) (lawful : AreLawful schemas) where
   entering : (readonly : Bool) (room : Room) → is_full room ≡ false → enter readonly room ≡ Some (after_enter readonly room)
   entering readonly room not_full = ap (λ b. cond b None (Some (after_enter readonly room))) not_full
 
-  diffs_keep : Keeps schemas (AreDiffs schemas)
+  diffs_keep : Keeps schemas (AreDiffs schemas.room)
   diffs_keep = record {
     joins = λ w version made h. record { room = h.room; clients = each_added IsRisingClient w.clients _ h.clients (record { items = tt; redos = tt }); channels = h.channels };
     rests = λ w n c d made at q h. record { room = h.room; clients = each_set IsRisingClient w.clients n d h.clients (quiet_rises c d q (h.clients n c at)); channels = h.channels };
@@ -145,8 +145,8 @@ module _ {F : Type 0} (schemas : Schemas F) (lawful : AreLawful schemas) where
         });
   }
 
-  all_diffs : (w : World) → ReachableWorld schemas w → AreDiffs schemas w
-  all_diffs w made = everywhere schemas (AreDiffs schemas) diffs_keep (λ room reached none. record { room = reached; clients = λ n c at. absurd (cc); channels = λ n c at. absurd (cc) }) w made
+  all_diffs : (w : World) → ReachableWorld schemas w → AreDiffs schemas.room w
+  all_diffs w made = everywhere schemas (AreDiffs schemas.room) diffs_keep (λ room reached none. record { room = reached; clients = λ n c at. absurd (cc); channels = λ n c at. absurd (cc) }) w made
 
-  pub room_reached : (w : World) → ReachableWorld schemas w → Reachable schemas w.room
+  pub room_reached : (w : World) → ReachableWorld schemas w → Reachable schemas.room w.room
   room_reached w made = (all_diffs w made).room

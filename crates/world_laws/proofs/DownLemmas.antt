@@ -1,6 +1,6 @@
 -- What is in flight to clients.
 use Rattle.std.proofs.Common.{◌≡◌, inl, inr, ℕ, ◌<◌, ℤ, pos, Bool, true, false, List, [], ◌∷◌, ◌++◌, length, slice_get, Option, Some, None, refl, sym, ap, subst, ◌∙◌, arith}
-use Rattle.room_model.specs.Schemas.{Schemas, Plan}
+use Rattle.room_model.specs.Schemas.{WorldSchemas, Plan}
 use Rattle.room_model.specs.Histories.{History}
 use Rattle.room_model.specs.Reachable.{is_over}
 use Rattle.room_model.specs.Rooms.{Phase, new, asked, live, ended, gone, Session, Room, Notice, snapshot_at, updates_between, pong, end, with_session}
@@ -252,11 +252,11 @@ client_set w n c d at connection reached h m k e s ch client has session channel
 pushing_sent : (w : World) (n : ℕ) (p : Pushing) → AreSent (with_client n p.client w) → AreSent (with_pushing n p w)
 pushing_sent w n p alone = pushing_keeps AreSent w n p alone (λ k channel is at. channel_set (with_client n p.client w) k channel _ at refl alone)
 
-act_same : {F : Type 0} (schemas : Schemas F) (c : Client) (p : Pushing) → Acts schemas c p → (p.client.connection ≡ c.connection) × (p.client.reached ≡ c.reached)
+act_same : {F : Type 0} (schemas : WorldSchemas F) (c : Client) (p : Pushing) → Acts schemas c p → (p.client.connection ≡ c.connection) × (p.client.reached ≡ c.reached)
 act_same schemas c _ (rests d q) = (q.connection, q.reached)
 act_same schemas c _ (works d work q place rising) = let same = work_same d work in (same.connection ∙ q.connection, same.reached ∙ q.reached)
 
-module _ {F : Type 0} (schemas : Schemas F) where
+module _ {F : Type 0} (schemas : WorldSchemas F) where
   -- who asks is sent nothing yet
   asks_sent : (w : World) (n : ℕ) (readonly : Bool) (c : Client) → AreSessions w → AreSent w → AreSent (ask schemas n readonly w c)
   asks_sent w n readonly c stands h m k e s ch client has session channel =
@@ -345,13 +345,13 @@ module _ {F : Type 0} (schemas : Schemas F) where
         let P : Room → Type 0 = λ r. AreSent (record w { room = r }) in
         let none : IsNoPing said = (subst AreNoPings first ((pings_stand schemas w made).none_sent k channel at)).0 in
         let now : P replied.room = message_turns P k (λ r n s phase at who here over g. phase_set (record w { room = r }) n s (record s { phase = phase }) at (λ c ns i. closed_sent c s.phase phase ns here over i) g)
-        (λ r n is g. g) schemas w.room k refl said
+        (λ r n is g. g) schemas.room w.room k refl said
         (λ s request reached protocol versions plan at says is planned g. phase_set w k s (record s { phase = asked request reached plan }) at (λ c ns i. asked_sent c s.phase request reached plan ns is i) g)
         (λ s count at says g. absurd (subst IsNoPing says none))
         (λ s sent plan push at says is taken g. g) replied is h in
         channel_set (record w { room = replied.room }) k channel _ at refl now;
     sends = λ w k channel given made at is h.
-        let on = drain_gives schemas w.room k given is in
+        let on = drain_gives schemas.room w.room k given is in
         drain_sent w k on.0 channel given.notice given.after on.1.at at on.2 ((pings_stand schemas w made).none_waits k on.0 on.1.at) h;
     delivers = λ w n k c channel notice notices made at is there first h.
         pushing_sent (with_channel k (record channel { to_client = notices }) w) n (after_notice w.room.history k c notice)

@@ -2,7 +2,7 @@
 use Rattle.std.proofs.Common.{◌≡◌, ℕ, pos, List, ◌∷◌, slice_get, Option, Some, None, sym, ap, subst, ◌∙◌, ℤ}
 use Rattle.std.proofs.lemmas.Option.{slice_get-get_or}
 use Rattle.std.specs.Prelude.{get_or, false}
-use Rattle.room_model.specs.Schemas.{Schemas}
+use Rattle.room_model.specs.Schemas.{WorldSchemas}
 use Rattle.room_model.specs.Rooms.{gone, Session, Notice, snapshot_at, updates_between, pong, end}
 use Rattle.room_model.specs.Replicas.{Client, session_of}
 use Rattle.room_model.specs.Worlds.{Channel, World}
@@ -40,7 +40,7 @@ due c k (Some r) (updates_between from to) notices last has at h =
 due c k place pong notices last has at h = tt
 due c k place (end reason) notices last has at h = tt
 
-pub next_due : {F : Type 0} (schemas : Schemas F) (w : World) (n k : ℕ) (c : Client) (channel : Channel) (notice : Notice) (notices : List Notice) → ReachableWorld schemas w
+pub next_due : {F : Type 0} (schemas : WorldSchemas F) (w : World) (n k : ℕ) (c : Client) (channel : Channel) (notice : Notice) (notices : List Notice) → ReachableWorld schemas w
     → slice_get w.clients n ≡ Some c → session_of c.connection ≡ Some k → slice_get w.channels k ≡ Some channel → channel.to_client ≡ notice ∷ notices → IsDue c k notice
 next_due schemas w n k c channel notice notices made at has there first =
     let less = (sessions_stand schemas w made).entered n k (record { client = c; made = at; has = has }) in

@@ -12,7 +12,7 @@ use Rattle.doc_model.specs.Marks.{Marks, Redo}
 use Rattle.doc_model.specs.Merging.{merge}
 use Rattle.doc_model.proofs.MergeLemmas.{rising-merge}
 use Rattle.doc_model.proofs.InverseLemmas.{rising-inverse_diff}
-use Rattle.room_model.specs.Schemas.{Schemas, AreLawful}
+use Rattle.room_model.specs.Schemas.{WorldSchemas, AreLawfulTogether}
 use Rattle.room_model.specs.Rooms.{Session, Room, Replied, session_at, after_message_in, after_message, leave, after_leave, Notice, Given, next_for, after_drain}
 use Rattle.room_model.specs.Reachable.{Reachable}
 use Rattle.room_model.specs.Replicas.{Work, edit, presence, Client, new_client, is_open, session_of, Pushing, push_none, push_all, with_work, after_presence, after_cut, after_notice, schema_of}
@@ -51,13 +51,13 @@ IsInPlace client (edit diff) = Unit {0}
 IsInPlace client (presence d) = is_open client.connection ≡ true
 
 -- what a client does by itself: it gives nothing, or a work
-pub data Acts {F : Type 0} (schemas : Schemas F) (client : Client) : Pushing → Type 0 where
+pub data Acts {F : Type 0} (schemas : WorldSchemas F) (client : Client) : Pushing → Type 0 where
   rests : (after : Client) → Quiet client after → Acts schemas client (push_none after)
   works : (after : Client) (work : Work) → Quiet client after → IsInPlace client work
-      → (AreLawful schemas → AreRisingRedos client.marks.redos → IsRisingWork work) → Acts schemas client (push_all (with_work work after))
+      → (AreLawfulTogether schemas → AreRisingRedos client.marks.redos → IsRisingWork work) → Acts schemas client (push_all (with_work work after))
 
 -- what each change of a world that can be reached keeps
-pub record Keeps {F : Type 0} (schemas : Schemas F) (P : World → Type 0) : Type 0 where
+pub record Keeps {F : Type 0} (schemas : WorldSchemas F) (P : World → Type 0) : Type 0 where
   pub joins : (w : World) (version : ℕ) → ReachableWorld schemas w → P w → P (record w { clients = w.clients ++ new_client version ∷ [] })
   pub rests : (w : World) (n : ℕ) (c d : Client) → ReachableWorld schemas w → slice_get w.clients n ≡ Some c → Quiet c d → P w → P (with_client n d w)
   pub cuts : (w : World) (n session : ℕ) (c : Client) → ReachableWorld schemas w → slice_get w.clients n ≡ Some c → session_of c.connection ≡ Some session
@@ -69,10 +69,10 @@ pub record Keeps {F : Type 0} (schemas : Schemas F) (P : World → Type 0) : Typ
   pub loses : (w : World) (k : ℕ) (channel : Channel) (room : Room) → ReachableWorld schemas w → slice_get w.channels k ≡ Some channel
       → after_leave w.room k ≡ Some room → P w → P (with_channel k (record channel { to_room = [] }) (record w { room = room }))
   pub handles : (w : World) (k : ℕ) (channel : Channel) (said : ClientMessage) (messages : List ClientMessage) (replied : Replied) → ReachableWorld schemas w
-      → slice_get w.channels k ≡ Some channel → channel.to_room ≡ said ∷ messages → after_message schemas w.room k said ≡ Some replied
+      → slice_get w.channels k ≡ Some channel → channel.to_room ≡ said ∷ messages → after_message schemas.room w.room k said ≡ Some replied
       → P w → P (with_channel k (record channel { to_room = messages }) (record w { room = replied.room }))
   pub sends : (w : World) (k : ℕ) (channel : Channel) (given : Given) → ReachableWorld schemas w → slice_get w.channels k ≡ Some channel
-      → next_for schemas w.room k ≡ Some given
+      → next_for schemas.room w.room k ≡ Some given
       → P w → P (with_channel k (record channel { to_client = channel.to_client ++ given.notice ∷ [] }) (record w { room = after_drain w.room k given }))
   pub delivers : (w : World) (n k : ℕ) (c : Client) (channel : Channel) (notice : Notice) (notices : List Notice) → ReachableWorld schemas w
       → slice_get w.clients n ≡ Some c → session_of c.connection ≡ Some k → slice_get w.channels k ≡ Some channel → channel.to_client ≡ notice ∷ notices
@@ -100,7 +100,7 @@ rising_merged : (diffs : List RecordOps) (diff : RecordOps) → marks.merge_some
 rising_merged [] diff is = absurd (cc)
 rising_merged (d ∷ diffs) diff is = let same : merge (d ∷ diffs) ≡ diff = cc in subst AreRising same (rising-merge (d ∷ diffs))
 
-module _ {F : Type 0} (schemas : Schemas F) (P : World → Type 0) (keeps : Keeps schemas P) where
+module _ {F : Type 0} (schemas : WorldSchemas F) (P : World → Type 0) (keeps : Keeps schemas P) where
   module _ (w : World) (made : ReachableWorld schemas w) (h : P w) where
     in_client : (n : ℕ) (next : Client → Outcome F) → ((c : Client) → slice_get w.clients n ≡ Some c → Holds P (next c)) → Holds P (at_client n w next)
     in_client n next k = from_option P next (slice_get w.clients n) _ (λ none. tt) k
@@ -199,15 +199,15 @@ module _ {F : Type 0} (schemas : Schemas F) (P : World → Type 0) (keeps : Keep
         elim channel.to_room as (λ ms. channel.to_room ≡ ms → Holds P (handle_first schemas trace k w channel ms)) [
           | [] ↦ λ none. tt
           | (said ∷ messages) ↦ λ first.
-              elim (after_message schemas w.room k said) as (λ o. after_message schemas w.room k said ≡ o
+              elim (after_message schemas.room w.room k said) as (λ o. after_message schemas.room w.room k said ≡ o
               → P (with_channel k (record channel { to_room = messages }) (record w { room = option_map_or (λ a. a.room) o w.room }))) [
-                | None ↦ λ none. absurd (cc (ap (option_map (λ session. after_message_in schemas k session w.room said session.phase)) there))
+                | None ↦ λ none. absurd (cc (ap (option_map (λ session. after_message_in schemas.room k session w.room said session.phase)) there))
                 | Some replied ↦ λ is. keeps.handles w k channel said messages replied made at first is h
               ] refl
         ] refl)
 
     send_keeps : (trace : Bool) (k : ℕ) → Holds P (on_send schemas trace k w)
-    send_keeps trace k = in_session P k w _ (λ s channel there at. from_option P _ (next_for schemas w.room k) _ (λ none. tt) (λ given is. keeps.sends w k channel given made at is h))
+    send_keeps trace k = in_session P k w _ (λ s channel there at. from_option P _ (next_for schemas.room w.room k) _ (λ none. tt) (λ given is. keeps.sends w k channel given made at is h))
 
     show_keeps : (n : ℕ) → Holds P (on_show schemas n w)
     show_keeps n = in_client n _ (λ c at. h)
@@ -230,6 +230,6 @@ module _ {F : Type 0} (schemas : Schemas F) (P : World → Type 0) (keeps : Keep
     event_keeps trace event.End = h
 
   -- what every change keeps holds of all worlds that can be reached
-  pub everywhere : ((room : Room) → Reachable schemas room → room.sessions ≡ [] → P (world_over room)) → (w : World) → ReachableWorld schemas w → P w
+  pub everywhere : ((room : Room) → Reachable schemas.room room → room.sessions ≡ [] → P (world_over room)) → (w : World) → ReachableWorld schemas w → P w
   everywhere begins _ (begun room calls none) = begins room calls none
   everywhere begins _ (stepped trace w e reached before is) = subst (Holds P) is (event_keeps w before (everywhere begins w before) trace e)

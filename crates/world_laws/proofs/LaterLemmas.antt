@@ -3,7 +3,7 @@ use Rattle.std.proofs.Common.{◌≡◌, inl, inr, ℕ, zero, suc, ◌<◌, ◌�
 use Rattle.std.proofs.lemmas.Bool.Decides.{nat_tests}
 use Rattle.rooms_val.specs.Data.{Pairs}
 use Rattle.doc_model.specs.Documents.{replay}
-use Rattle.room_model.specs.Schemas.{Schemas, records_with, doc}
+use Rattle.room_model.specs.Schemas.{WorldSchemas, records_with, doc}
 use Rattle.room_model.specs.Bases.{is_told}
 use Rattle.room_model.specs.Messages.{others_of}
 use Rattle.room_model.specs.declared.connection.Connection.{Connection}
@@ -128,10 +128,10 @@ notice_version history k c (updates_between from to) = refl
 notice_version history k c pong = refl
 notice_version history k c (end reason) = end_version reason c
 
-module _ {F : Type 0} (schemas : Schemas F) (w : World) where
-  later_message : (r : Room) (n : ℕ) (said : ClientMessage) (replied : Replied) → after_message schemas r n said ≡ Some replied → IsLaterRoom w.room r → IsLaterRoom w.room replied.room
+module _ {F : Type 0} (schemas : WorldSchemas F) (w : World) where
+  later_message : (r : Room) (n : ℕ) (said : ClientMessage) (replied : Replied) → after_message schemas.room r n said ≡ Some replied → IsLaterRoom w.room r → IsLaterRoom w.room replied.room
   later_message r n said replied is h =
-      message_keeps (IsLaterRoom w.room) (λ r n s t at on h. later_set w.room r n s t at on.same h) (λ r n is h. later_entry w.room r _ h) schemas
+      message_keeps (IsLaterRoom w.room) (λ r n s t at on h. later_set w.room r n s t at on.same h) (λ r n is h. later_entry w.room r _ h) schemas.room
       (λ r n s sent plan push at is taken h. later_entry w.room r _ h) r n said replied is h
 
   later_leave : (r after : Room) (n : ℕ) → after_leave r n ≡ Some after → IsLaterRoom w.room r → IsLaterRoom w.room after
@@ -218,7 +218,7 @@ module _ {F : Type 0} (schemas : Schemas F) (w : World) where
     loses = λ v k channel room made at is h. same_clients v _ refl (later_leave v.room room k is h.room) h;
     handles = λ v k channel said messages replied made at first is h. same_clients v _ refl (later_message v.room k said replied is h.room) h;
     sends = λ v k channel given made at is h.
-        let on = drain_gives schemas v.room k given is in
+        let on = drain_gives schemas.room v.room k given is in
         same_clients v _ refl (later_set w.room v.room k on.0 given.after on.1.at (given_like v.room k on.0 given.notice given.after on.2) h.room) h;
     delivers = λ v n k c channel notice notices made at is there first h.
         let u = with_channel k (record channel { to_client = notices }) v in
@@ -257,19 +257,19 @@ module _ {F : Type 0} (schemas : Schemas F) (w : World) where
     seen_stays part = ap (λ h. seen_by schemas (plan_of schemas c) (part (records_of h))) (reached_stays trace event made n c reached is at)
 
     base_stays : (x : Connection) → base_by schemas made.world.room.history c x ≡ base_by schemas w.room.history c x
-    base_stays Off = seen_stays (doc schemas)
-    base_stays (Asking k) = seen_stays (doc schemas)
-    base_stays (Open k) = seen_stays (records_with (is_told schemas k))
+    base_stays Off = seen_stays (doc schemas.room)
+    base_stays (Asking k) = seen_stays (doc schemas.room)
+    base_stays (Open k) = seen_stays (records_with (is_told schemas.room k))
 
     others_by_stay : (x : Connection) → others_by schemas made.world.room.history c x ≡ others_by schemas w.room.history c x
     others_by_stay Off = refl
     others_by_stay (Asking k) = refl
-    others_by_stay (Open k) = seen_stays (others_of schemas k)
+    others_by_stay (Open k) = seen_stays (others_of schemas.room k)
 
     pub has_same : HasSame schemas w made.world c
     has_same = record {
       history = reached_stays trace event made n c reached is at;
       replica = let base = base_stays c.connection in λ i. record { base = base i; pending = c.pending };
-      shown = ap (λ base. replay (schema_of schemas c).admits base (pending_diffs c)) (seen_stays (doc schemas));
+      shown = ap (λ base. replay (schema_of schemas c).admits base (pending_diffs c)) (seen_stays (doc schemas.room));
       others_are = others_by_stay c.connection;
     }

@@ -74,7 +74,7 @@ drop_if : (b : Bool) (n : ℕ) (items : List Pending) → drop (cond b 1 0) (dro
 drop_if true n items = drop_more n items ∙ (let same : suc n ≡ 1 + n = omega arith in ap (λ k. drop k items) same)
 drop_if false n items = let same : n ≡ 0 + n = omega arith in ap (λ k. drop k items) same
 
-module _ {F : Type 0} (schemas : Schemas F) (member : Member) where
+module _ (schemas : Schemas) (member : Member) where
   abbrev is_mine : Entry → Bool
   is_mine entry = is_by member.session entry
 
@@ -183,7 +183,7 @@ module _ {F : Type 0} (schemas : Schemas F) (member : Member) where
 
 -- what a client owes is answered by the entries above its clock
 
-module _ {F : Type 0} (schemas : Schemas F) where
+module _ (schemas : Schemas) where
   owed_front : (goes : Bool) (xs ys : List Entry) (items : List Pending) (ms : List ClientMessage) → IsOwed schemas goes (xs ++ ys) items ms → IsOwed schemas false xs items []
   owed_front goes [] ys items ms h = tt
   owed_front goes (x ∷ xs) ys [] ms h = absurd h

@@ -41,7 +41,7 @@ flight_push true m work (item ∷ items) (said ∷ ms) is h =
     subst (λ is. AreInFlight true is (said ∷ (ms ++ push_of m work ∷ []))) (sym (send_later m item items h.0.0 h.0.1))
     (h.0, flight_push true m work items ms (sym (first_later item items h.0.0 h.0.1) ∙ is) h.1)
 
-owed_push : {F : Type 0} (schemas : Schemas F) (goes : Bool) (m : ℕ) (work : Work) (numbers : List Entry) (items : List Pending) (ms : List ClientMessage) → first_unsent items ≡ Some work → IsOwed schemas goes numbers items ms
+owed_push : (schemas : Schemas) (goes : Bool) (m : ℕ) (work : Work) (numbers : List Entry) (items : List Pending) (ms : List ClientMessage) → first_unsent items ≡ Some work → IsOwed schemas goes numbers items ms
     → IsOwed schemas goes numbers (send_first m items) (ms ++ push_of m work ∷ [])
 owed_push schemas goes m work [] items ms is h = flight_push goes m work items ms is h
 owed_push schemas goes m work (number ∷ numbers) [] ms is h = absurd h
@@ -50,7 +50,7 @@ owed_push schemas goes m work (number ∷ numbers) (item ∷ items) ms is h =
     (h.0, owed_push schemas goes m work numbers items ms (sym (first_later item items h.0.0 h.0.1) ∙ is) h.1)
 
 -- and as many as there are
-pub owed_pushes : {F : Type 0} (schemas : Schemas F) (goes : Bool) (numbers : List Entry) (n : ℕ) (c : Client) (ms : List ClientMessage) → IsOwed schemas goes numbers c.pending ms
+pub owed_pushes : (schemas : Schemas) (goes : Bool) (numbers : List Entry) (n : ℕ) (c : Client) (ms : List ClientMessage) → IsOwed schemas goes numbers c.pending ms
     → IsOwed schemas goes numbers (push_times n c).client.pending (ms ++ (push_times n c).messages)
 owed_pushes schemas goes numbers zero c ms h = subst (IsOwed schemas goes numbers c.pending) (sym (append_none ms)) h
 owed_pushes schemas goes numbers (suc n) c ms h =
@@ -122,13 +122,13 @@ pub few_unsent : (items : List Pending) → count_unsent items ≤ length items
 few_unsent items = count_by-le-length (λ item. is_none item.sent_as) items
 
 -- a session that isn't live any more
-pub owed_over : {F : Type 0} (schemas : Schemas F) (numbers : List Entry) (items : List Pending) (ms : List ClientMessage) (goes : Bool) → IsOwed schemas goes numbers items ms → (others : List ClientMessage) → IsOwed schemas false numbers items others
+pub owed_over : (schemas : Schemas) (numbers : List Entry) (items : List Pending) (ms : List ClientMessage) (goes : Bool) → IsOwed schemas goes numbers items ms → (others : List ClientMessage) → IsOwed schemas false numbers items others
 owed_over schemas [] items ms goes h others = tt
 owed_over schemas (number ∷ numbers) [] ms goes h others = absurd h
 owed_over schemas (number ∷ numbers) (item ∷ items) ms goes h others = (h.0, owed_over schemas numbers items ms goes h.1 others)
 
 -- the push that comes first is answered
-pub owed_answer : {F : Type 0} (schemas : Schemas F) (entries : List Entry) (items : List Pending) (said : ClientMessage) (ms : List ClientMessage) (entry : Entry)
+pub owed_answer : (schemas : Schemas) (entries : List Entry) (items : List Pending) (said : ClientMessage) (ms : List ClientMessage) (entry : Entry)
     → ((n : ℕ) (work : Work) → said ≡ push_of n work → IsAnswer schemas n work entry) → IsOwed schemas true entries items (said ∷ ms)
     → IsOwed schemas true (entries ++ entry ∷ []) items ms
 owed_answer schemas [] [] said ms entry says h = absurd h
@@ -137,7 +137,7 @@ owed_answer schemas (e ∷ entries) [] said ms entry says h = absurd h
 owed_answer schemas (e ∷ entries) (item ∷ items) said ms entry says h = (h.0, owed_answer schemas entries items said ms entry says h.1)
 
 -- what was told is no longer pending
-owed_told : {F : Type 0} (schemas : Schemas F) (goes : Bool) (told later : List Entry) (items : List Pending) (ms : List ClientMessage) → IsOwed schemas goes (told ++ later) items ms → IsOwed schemas goes later (drop (length told) items) ms
+owed_told : (schemas : Schemas) (goes : Bool) (told later : List Entry) (items : List Pending) (ms : List ClientMessage) → IsOwed schemas goes (told ++ later) items ms → IsOwed schemas goes later (drop (length told) items) ms
 owed_told schemas goes [] later items ms h = h
 owed_told schemas goes (number ∷ told) later [] ms h = absurd h
 owed_told schemas goes (number ∷ told) later (item ∷ items) ms h = owed_told schemas goes told later items ms h.1
@@ -203,7 +203,7 @@ answered_split k from to (entry ∷ history) less =
           ∙ append_assoc (answered_above k from (oldest to history)) (answered_above k to history) (answers_by k entry)
     ] refl
 
-pub owed_updates : {F : Type 0} (schemas : Schemas F) (goes : Bool) (k from to : ℕ) (history : History) (items : List Pending) (ms : List ClientMessage) → from ≤ to → IsOwed schemas goes (answered_above k from history) items ms
+pub owed_updates : (schemas : Schemas) (goes : Bool) (k from to : ℕ) (history : History) (items : List Pending) (ms : List ClientMessage) → from ≤ to → IsOwed schemas goes (answered_above k from history) items ms
     → IsOwed schemas goes (answered_above k to history) (drop (count_by_session k from to history) items) ms
 owed_updates schemas goes k from to history items ms less h =
     let told = answered_above k from (oldest to history) in

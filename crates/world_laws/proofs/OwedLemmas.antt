@@ -2,7 +2,7 @@
 use Rattle.std.proofs.Common.{◌≡◌, inl, inr, ℕ, zero, suc, ◌≤◌, ◌==◌, nat_lt, pos, Bool, true, false, not, ◌&&◌, cond, List, [], ◌∷◌, ◌++◌, length, map, drop, slice_get, slice_set, Option, Some, None, option_map, option_and_then, refl, sym, ap, subst, ◌∙◌, arith}
 use Rattle.std.specs.Prelude.{option_to_list}
 use Rattle.std.specs.Option.{option_map_or}
-use Rattle.room_model.specs.Schemas.{Schemas, AreLawful, Plan}
+use Rattle.room_model.specs.Schemas.{WorldSchemas, AreLawfulTogether, Plan}
 use Rattle.room_model.specs.Histories.{History}
 use Rattle.room_model.specs.Accepting.{Push, is_taken}
 use Rattle.room_model.specs.Closing as closing
@@ -57,7 +57,7 @@ goes_here (live sent plan) h = absurd (cc)
 goes_here (ended reason told) h = refl
 goes_here gone h = refl
 
-module _ {F : Type 0} (schemas : Schemas F) where
+module _ {F : Type 0} (schemas : WorldSchemas F) where
   -- a further work
   flight_more : (goes : Bool) (items : List Pending) (work : Work) (ms : List ClientMessage) → AreInFlight goes items ms → AreInFlight goes (items ++ unsent work ∷ []) ms
   flight_more false items work ms h = tt
@@ -66,7 +66,7 @@ module _ {F : Type 0} (schemas : Schemas F) where
   flight_more true (item ∷ items) work [] h = (h.0, flight_more true items work [] h.1)
   flight_more true (item ∷ items) work (said ∷ ms) h = (h.0, flight_more true items work ms h.1)
 
-  owed_more : (goes : Bool) (numbers : List Entry) (items : List Pending) (work : Work) (ms : List ClientMessage) → IsOwed schemas goes numbers items ms → IsOwed schemas goes numbers (items ++ unsent work ∷ []) ms
+  owed_more : (goes : Bool) (numbers : List Entry) (items : List Pending) (work : Work) (ms : List ClientMessage) → IsOwed schemas.room goes numbers items ms → IsOwed schemas.room goes numbers (items ++ unsent work ∷ []) ms
   owed_more goes [] items work ms h = flight_more goes items work ms h
   owed_more goes (number ∷ numbers) [] work ms h = absurd h
   owed_more goes (number ∷ numbers) (item ∷ items) work ms h = (h.0, owed_more goes numbers items work ms h.1)
@@ -84,16 +84,16 @@ module _ {F : Type 0} (schemas : Schemas F) where
 
   -- what is owed of one client, by the room's history, its session's phase and what is in flight
   pub record Owing (c : Client) (k reached : ℕ) (goes : Bool) (history : History) (ms : List ClientMessage) : Type 0 where
-    owed : IsOwed schemas goes (answered_above k reached history) c.pending ms
+    owed : IsOwed schemas.room goes (answered_above k reached history) c.pending ms
     pushed : next_push c ≡ None
 
   -- all that can be is pushed
-  pushes_owed : (e : Client) (k reached : ℕ) (goes : Bool) (history : History) (ms : List ClientMessage) → IsOwed schemas goes (answered_above k reached history) e.pending ms
+  pushes_owed : (e : Client) (k reached : ℕ) (goes : Bool) (history : History) (ms : List ClientMessage) → IsOwed schemas.room goes (answered_above k reached history) e.pending ms
       → Owing (push_all e).client k reached goes history (ms ++ (push_all e).messages)
-  pushes_owed e k reached goes history ms h = record { owed = owed_pushes schemas goes (answered_above k reached history) (length e.pending) e ms h; pushed = pushed_all (length e.pending) e (few_unsent e.pending) }
+  pushes_owed e k reached goes history ms h = record { owed = owed_pushes schemas.room goes (answered_above k reached history) (length e.pending) e ms h; pushed = pushed_all (length e.pending) e (few_unsent e.pending) }
 
   over_owing : (c : Client) (k reached : ℕ) (goes : Bool) (history : History) (ms others : List ClientMessage) → Owing c k reached goes history ms → Owing c k reached false history others
-  over_owing c k reached goes history ms others h = record { owed = owed_over schemas (answered_above k reached history) c.pending ms goes h.owed others; pushed = h.pushed }
+  over_owing c k reached goes history ms others h = record { owed = owed_over schemas.room (answered_above k reached history) c.pending ms goes h.owed others; pushed = h.pushed }
 
   -- the same of each client that is connected
   abbrev AllOwing : World → Type 0
@@ -147,7 +147,7 @@ module _ {F : Type 0} (schemas : Schemas F) where
 
   -- a client pushes all it can, which before owed what it did
   owing_pushing : (w : World) (n : ℕ) (e : Client) → AreSessions (with_client n e w) → ((k r : ℕ) (s : Session) (ch : Channel) → e.connection ≡ Open k → e.reached ≡ pos r
-      → slice_get w.room.sessions k ≡ Some s → slice_get w.channels k ≡ Some ch → IsOwed schemas (goes_on s.phase) (answered_above k r w.room.history) e.pending ch.to_room)
+      → slice_get w.room.sessions k ≡ Some s → slice_get w.channels k ≡ Some ch → IsOwed schemas.room (goes_on s.phase) (answered_above k r w.room.history) e.pending ch.to_room)
       → ((m k r : ℕ) (c : Client) (s : Session) (ch : Channel) → (m ≡ n → ⊥) → slice_get w.clients m ≡ Some c → c.connection ≡ Open k → c.reached ≡ pos r
       → slice_get w.room.sessions k ≡ Some s → slice_get w.channels k ≡ Some ch → Owing c k r (goes_on s.phase) w.room.history ch.to_room)
       → slice_get (with_client n e w).clients n ≡ Some e → AllOwing (with_pushing n (push_all e) w)
@@ -210,12 +210,12 @@ module _ {F : Type 0} (schemas : Schemas F) where
   owing_same : (c d : Client) (k r : ℕ) (goes : Bool) (history : History) (ms : List ClientMessage) → d.connection ≡ c.connection → d.pushes ≡ c.pushes → d.pending ≡ c.pending
       → Owing c k r goes history ms → Owing d k r goes history ms
   owing_same c d k r goes history ms connection pushes pending h = record {
-    owed = subst (λ is. IsOwed schemas goes (answered_above k r history) is ms) (sym pending) h.owed;
+    owed = subst (λ is. IsOwed schemas.room goes (answered_above k r history) is ms) (sym pending) h.owed;
     pushed = no_more c d connection pushes pending h.pushed;
   }
 
   owing_history : (c : Client) (k r : ℕ) (goes : Bool) (before after : History) (ms : List ClientMessage) → answered_above k r after ≡ answered_above k r before → Owing c k r goes before ms → Owing c k r goes after ms
-  owing_history c k r goes before after ms same h = record { owed = subst (λ ns. IsOwed schemas goes ns c.pending ms) (sym same) h.owed; pushed = h.pushed }
+  owing_history c k r goes before after ms same h = record { owed = subst (λ ns. IsOwed schemas.room goes ns c.pending ms) (sym same) h.owed; pushed = h.pushed }
 
   act_owing : (w : World) (n : ℕ) (c : Client) (p : Pushing) → AreSessions w → slice_get w.clients n ≡ Some c → Acts schemas c p → AllOwing w → AllOwing (with_pushing n p w)
   act_owing w n c _ stands at (rests d q) h =
@@ -227,7 +227,7 @@ module _ {F : Type 0} (schemas : Schemas F) where
       (λ k r s ch on reached session channel.
       let old = h n k r c s ch at (sym q.connection ∙ on) (sym q.reached ∙ reached) session channel in
       owed_more (goes_on s.phase) (answered_above k r w.room.history) d.pending work ch.to_room
-      (subst (λ is. IsOwed schemas (goes_on s.phase) (answered_above k r w.room.history) is ch.to_room) (sym q.pending) old.owed))
+      (subst (λ is. IsOwed schemas.room (goes_on s.phase) (answered_above k r w.room.history) is ch.to_room) (sym q.pending) old.owed))
       (λ m k r x s ch apart client on reached session channel. h m k r x s ch client on reached session channel)
       (set_here w.clients n c e at)
 
@@ -305,27 +305,27 @@ module _ {F : Type 0} (schemas : Schemas F) where
   -- a session's push is taken
   owing_taken : (w : World) (k : ℕ) (s : Session) (sent : ℕ) (plan : Plan) (push : Push) (channel : Channel) (said : ClientMessage) (messages : List ClientMessage)
       → slice_get w.room.sessions k ≡ Some s → slice_get w.channels k ≡ Some channel → channel.to_room ≡ said ∷ messages → closing.push_of said ≡ Some push → s.phase ≡ live sent plan
-      → AreLawful schemas → is_taken schemas (member_of k s plan) push ≡ true → AreWithinClock w → AllOwing w
-      → AllOwing (record w { room = record w.room { history = pushed_by schemas w.room k s plan push ∷ w.room.history }; channels = slice_set w.channels k (record channel { to_room = messages }) })
+      → AreLawfulTogether schemas → is_taken schemas.room (member_of k s plan) push ≡ true → AreWithinClock w → AllOwing w
+      → AllOwing (record w { room = record w.room { history = pushed_by schemas.room w.room k s plan push ∷ w.room.history }; channels = slice_set w.channels k (record channel { to_room = messages }) })
   owing_taken w k s sent plan push channel said messages at there first says is lawful taken bound h m j x c u ch client on reached session to =
-      let entry = pushed_by schemas w.room k s plan push in
+      let entry = pushed_by schemas.room w.room k s plan push in
       let history = w.room.history in
       let less = bound m x c client reached in
-      let answers_it = answers_push schemas lawful w.room k s plan push said taken says in
+      let answers_it = answers_push schemas.room lawful.room w.room k s plan push said taken says in
       elim (got_split w.channels k j (record channel { to_room = messages }) ch to) [
         | inl it ↦
             let some : Some u ≡ Some s = sym session ∙ ap (slice_get w.room.sessions) it.0 ∙ at in
             let same : u ≡ s = cc in
             let lives : goes_on u.phase ≡ true = ap (λ (y : Session). goes_on y.phase) same ∙ ap goes_on is in
             let old : Owing c j x (goes_on u.phase) history channel.to_room = h m j x c u channel client on reached session (ap (slice_get w.channels) it.0 ∙ there) in
-            let before : IsOwed schemas true (answered_above j x history) c.pending (said ∷ messages) =
-            subst (λ b. IsOwed schemas b (answered_above j x history) c.pending (said ∷ messages)) lives
-            (subst (IsOwed schemas (goes_on u.phase) (answered_above j x history) c.pending) first old.owed) in
-            let now : IsOwed schemas true (answered_above j x (entry ∷ history)) c.pending messages =
-            subst (λ ns. IsOwed schemas true ns c.pending messages) (sym (by_own j x entry history ((Decides-eqb k j).1 (sym it.0)) less))
-            (owed_answer schemas (answered_above j x history) c.pending said messages entry answers_it before) in
+            let before : IsOwed schemas.room true (answered_above j x history) c.pending (said ∷ messages) =
+            subst (λ b. IsOwed schemas.room b (answered_above j x history) c.pending (said ∷ messages)) lives
+            (subst (IsOwed schemas.room (goes_on u.phase) (answered_above j x history) c.pending) first old.owed) in
+            let now : IsOwed schemas.room true (answered_above j x (entry ∷ history)) c.pending messages =
+            subst (λ ns. IsOwed schemas.room true ns c.pending messages) (sym (by_own j x entry history ((Decides-eqb k j).1 (sym it.0)) less))
+            (owed_answer schemas.room (answered_above j x history) c.pending said messages entry answers_it before) in
             subst (λ (y : Channel). Owing c j x (goes_on u.phase) (entry ∷ history) y.to_room) (sym it.1)
-            (record { owed = subst (λ b. IsOwed schemas b (answered_above j x (entry ∷ history)) c.pending messages) (sym lives) now; pushed = old.pushed })
+            (record { owed = subst (λ b. IsOwed schemas.room b (answered_above j x (entry ∷ history)) c.pending messages) (sym lives) now; pushed = old.pushed })
         | inr other ↦
             owing_history c j x (goes_on u.phase) history (entry ∷ history) ch.to_room
             (by_other j x entry history (other_author j k other.0) less) (h m j x c u ch client on reached session other.1)
@@ -354,11 +354,11 @@ module _ {F : Type 0} (schemas : Schemas F) where
       ))
       n r (more, h)).1
 
-  owing_handled : (w : World) (k : ℕ) (channel : Channel) (said : ClientMessage) (messages : List ClientMessage) (replied : Replied) → AreLawful schemas → IsNoPing said → AreWithinClock w
-      → slice_get w.channels k ≡ Some channel → channel.to_room ≡ said ∷ messages → after_message schemas w.room k said ≡ Some replied → AllOwing w
+  owing_handled : (w : World) (k : ℕ) (channel : Channel) (said : ClientMessage) (messages : List ClientMessage) (replied : Replied) → AreLawfulTogether schemas → IsNoPing said → AreWithinClock w
+      → slice_get w.channels k ≡ Some channel → channel.to_room ≡ said ∷ messages → after_message schemas.room w.room k said ≡ Some replied → AllOwing w
       → AllOwing (with_channel k (record channel { to_room = messages }) (record w { room = replied.room }))
   owing_handled w k channel said messages replied lawful no_ping bound there first is h =
-      let on = message_receives schemas w.room k said replied is in
+      let on = message_receives schemas.room w.room k said replied is in
       let s = on.0 in
       let at = on.1.at in
       let v = with_channel k (record channel { to_room = messages }) w in
@@ -387,7 +387,7 @@ module _ {F : Type 0} (schemas : Schemas F) where
             (after_closed (OweBetween v k) k (λ r j u phase from who here over g. owe_closes v k r j u phase from over g) (λ r j is g. owe_removes v k r j bound g)
             w.room k s (ended reason false) refl at here (untold reason) begins)
         | takes sent plan push says is taken ↦
-            let now : Room = record w.room { history = pushed_by schemas w.room k s plan push ∷ w.room.history } in
+            let now : Room = record w.room { history = pushed_by schemas.room w.room k s plan push ∷ w.room.history } in
             owing_slow v (length now.sessions) now bound (omega arith) (owing_taken w k s sent plan push channel said messages at there first says is lawful taken bound h)
       ]
 
@@ -442,7 +442,7 @@ module _ {F : Type 0} (schemas : Schemas F) where
   not_new_sent : (p : Phase) (notice : Notice) (notices : List Notice) (last : Option ℕ) → IsSentTo p (notice ∷ notices) last → p ≡ new → ⊥
   not_new_sent p notice notices last sent is = let h : IsSentTo new (notice ∷ notices) last = subst (λ p. IsSentTo p (notice ∷ notices) last) is sent in absurd (let no = h.0 in cc)
 
-  owing_delivered : (w : World) (n k : ℕ) (c : Client) (channel : Channel) (notices : List Notice) (notice : Notice) → ReachableWorld schemas w → AreLawful schemas → slice_get w.clients n ≡ Some c
+  owing_delivered : (w : World) (n k : ℕ) (c : Client) (channel : Channel) (notices : List Notice) (notice : Notice) → ReachableWorld schemas w → AreLawfulTogether schemas → slice_get w.clients n ≡ Some c
       → session_of c.connection ≡ Some k → slice_get w.channels k ≡ Some channel → channel.to_client ≡ notice ∷ notices → AllOwing w
       → AllOwing (with_pushing n (after_notice w.room.history k c notice) (with_channel k (record channel { to_client = notices }) w))
   owing_delivered w n k c channel notices (snapshot_at clock) made lawful at has there first h =
@@ -463,7 +463,7 @@ module _ {F : Type 0} (schemas : Schemas F) where
       ] in
       let none : answered_above j r w.room.history ≡ [] = subst (λ i. answered_above i r w.room.history ≡ []) it
       (none_answered k r w.room.history ((waiting_stand schemas lawful w made).none n k c at asks)) in
-      subst (λ ns. IsOwed schemas (goes_on s.phase) ns e.pending ch.to_room) (sym none)
+      subst (λ ns. IsOwed schemas.room (goes_on s.phase) ns e.pending ch.to_room) (sym none)
       (subst (AreInFlight (goes_on s.phase) e.pending) (sym ch_empty) (unsent_flight (goes_on s.phase) (map edit (pending_diffs c) ++ map presence (option_to_list c.presence)))))
       (λ m j r x s ch apart client on reached session to. now m j r x s ch client on reached session to)
       (set_here w.clients n c e at)
@@ -479,11 +479,11 @@ module _ {F : Type 0} (schemas : Schemas F) where
       let at_clock : to ≡ r = cc in
       let less = due.2 in
       let old : Owing c j from (goes_on s.phase) w.room.history ch.to_room = now n j from c s ch at on due.1 session to_it in
-      let k_old : IsOwed schemas (goes_on s.phase) (answered_above k from w.room.history) c.pending ch.to_room = subst (λ i. IsOwed schemas (goes_on s.phase) (answered_above i from w.room.history) c.pending ch.to_room) (sym it) old.owed in
-      let later : IsOwed schemas (goes_on s.phase) (answered_above k to w.room.history) (drop told c.pending) ch.to_room = owed_updates schemas (goes_on s.phase) k from to w.room.history c.pending ch.to_room (omega arith) k_old in
+      let k_old : IsOwed schemas.room (goes_on s.phase) (answered_above k from w.room.history) c.pending ch.to_room = subst (λ i. IsOwed schemas.room (goes_on s.phase) (answered_above i from w.room.history) c.pending ch.to_room) (sym it) old.owed in
+      let later : IsOwed schemas.room (goes_on s.phase) (answered_above k to w.room.history) (drop told c.pending) ch.to_room = owed_updates schemas.room (goes_on s.phase) k from to w.room.history c.pending ch.to_room (omega arith) k_old in
       record {
-        owed = subst (λ i. IsOwed schemas (goes_on s.phase) (answered_above i r w.room.history) (drop told c.pending) ch.to_room) it
-            (subst (λ x. IsOwed schemas (goes_on s.phase) (answered_above k x w.room.history) (drop told c.pending) ch.to_room) at_clock later);
+        owed = subst (λ i. IsOwed schemas.room (goes_on s.phase) (answered_above i r w.room.history) (drop told c.pending) ch.to_room) it
+            (subst (λ x. IsOwed schemas.room (goes_on s.phase) (answered_above k x w.room.history) (drop told c.pending) ch.to_room) at_clock later);
         pushed = dropped_push told (pos to) c old.pushed;
       })
       now
@@ -496,7 +496,7 @@ module _ {F : Type 0} (schemas : Schemas F) where
       let now = owing_channel w k channel (record channel { to_client = notices }) there refl h in
       owing_rest v n (after_end reason c) (λ j r s ch on reached session to. absurd (differ (sym (ap is_open on) ∙ end_off reason c))) now
 
-  owing_keep : AreLawful schemas → Keeps schemas AllOwing
+  owing_keep : AreLawfulTogether schemas → Keeps schemas AllOwing
   owing_keep lawful = record {
     joins = λ w version made h m k r c s ch client on reached session channel. elim (got-added w.clients m (new_client version) c client) [
       | inl same ↦ absurd (let no : Open k ≡ Off = sym on ∙ ap (λ (x : Client). x.connection) same in cc)
@@ -511,12 +511,12 @@ module _ {F : Type 0} (schemas : Schemas F) where
     handles = λ w k channel said messages replied made at first is h.
         owing_handled w k channel said messages replied lawful (subst AreNoPings first ((pings_stand schemas w made).none_sent k channel at)).0 (within_clock w made) at first is h;
     sends = λ w k channel given made at is h.
-        let on = drain_gives schemas w.room k given is in
+        let on = drain_gives schemas.room w.room k given is in
         owing_channel (record w { room = after_drain w.room k given }) k channel _ at refl (owing_drained w k on.0 given.notice given.after made on.1.at on.2 h);
     delivers = λ w n k c channel notice notices made at is there first h. owing_delivered w n k c channel notices notice made lawful at is there first h;
   }
 
-  pub owed_stand : AreLawful schemas → (w : World) → ReachableWorld schemas w → AreOwed schemas w
+  pub owed_stand : AreLawfulTogether schemas → (w : World) → ReachableWorld schemas w → AreOwed schemas.room w
   owed_stand lawful w made =
       let h = everywhere schemas AllOwing (owing_keep lawful) (λ room calls none m k r c s ch client on reached session channel. absurd (cc)) w made in
       λ n k r c s ch client on reached session channel. (let o = h n k r c s ch client on reached session channel in record { owed = o.owed; pushed = o.pushed })

@@ -1,7 +1,7 @@
 -- Clients of a world send no pings.
 use Rattle.std.proofs.Common.{◌≡◌, ℕ, zero, suc, List, [], ◌∷◌, ◌++◌, length, slice_get, slice_set, Some, None, refl, sym, ap, subst, ◌∙◌, arith}
 use Rattle.std.specs.Option.{option_map_or}
-use Rattle.room_model.specs.Schemas.{Schemas}
+use Rattle.room_model.specs.Schemas.{WorldSchemas}
 use Rattle.room_model.specs.Histories.{History}
 use Rattle.room_model.specs.Rooms.{Session, Room, Notice, snapshot_at, updates_between, pong, end}
 use Rattle.room_model.specs.Replicas.{Work, edit, presence, Client, Pushing, push_none, push_of, next_push, push_times, with_work, after_notice}
@@ -39,7 +39,7 @@ notice_no_pings history k c (updates_between from to) = tt
 notice_no_pings history k c pong = tt
 notice_no_pings history k c (end reason) = tt
 
-act_no_pings : {F : Type 0} (schemas : Schemas F) (c : Client) (p : Pushing) → Acts schemas c p → AreNoPings p.messages
+act_no_pings : {F : Type 0} (schemas : WorldSchemas F) (c : Client) (p : Pushing) → Acts schemas c p → AreNoPings p.messages
 act_no_pings schemas c _ (rests d q) = tt
 act_no_pings schemas c _ (works d work q place rising) = pushed_no_pings (length (with_work work d).pending) (with_work work d)
 
@@ -67,7 +67,7 @@ pushing_pings w n p none h = pushing_keeps AreWithoutPings w n p (record { none_
   none_waits = h.none_waits;
 })
 
-module _ {F : Type 0} (schemas : Schemas F) where
+module _ {F : Type 0} (schemas : WorldSchemas F) where
   pings_keep : Keeps schemas AreWithoutPings
   pings_keep = record {
     joins = λ w version made h. record { none_sent = h.none_sent; none_waits = h.none_waits };
@@ -87,13 +87,13 @@ module _ {F : Type 0} (schemas : Schemas F) where
         let none : AreNoPings (said ∷ messages) = subst AreNoPings first (h.none_sent k channel at) in
         record {
           none_sent = each_set NoPings w.channels k _ h.none_sent none.1;
-          none_waits = message_turns Waiting k (λ r n s phase at who here over waits. waits_set r n s _ at refl waits) (λ r n is waits. waits) schemas w.room k refl said
+          none_waits = message_turns Waiting k (λ r n s phase at who here over waits. waits_set r n s _ at refl waits) (λ r n is waits. waits) schemas.room w.room k refl said
               (λ s request reached protocol versions plan at says is planned waits. waits_set w.room k s _ at refl waits)
               (λ s count at says waits. absurd (subst IsNoPing says none.0))
               (λ s sent plan push at says is taken waits. waits) replied is h.none_waits;
         };
     sends = λ w k channel given made at is h.
-        let on = drain_gives schemas w.room k given is in
+        let on = drain_gives schemas.room w.room k given is in
         record {
           none_sent = each_set NoPings w.channels k _ h.none_sent (h.none_sent k channel at);
           none_waits = each_set NoneWaits w.room.sessions k given.after h.none_waits (given_waits w.room k on.0 given.notice given.after on.2 (h.none_waits k on.0 on.1.at));

@@ -68,7 +68,7 @@ entered_few readonly room after is =
     let few = below (length room.sessions) (or_second _ _ on.0) in
     subst (λ (r : Room). length r.sessions ≤ MOST_ENTERED) on.1 (subst (λ k. k ≤ MOST_ENTERED) (sym (long-added room.sessions _)) few)
 
-few_entered : {F : Type 0} (schemas : Schemas F) (room : Room) → Reachable schemas room → length room.sessions ≤ MOST_ENTERED
+few_entered : (schemas : Schemas) (room : Room) → Reachable schemas room → length room.sessions ≤ MOST_ENTERED
 few_entered schemas _ (made last) = omega arith
 few_entered schemas _ (entered readonly room after before is) = entered_few readonly room after is
 few_entered schemas _ (received session said room replied before rising is) = let h = few_entered schemas room before in let e = message_long schemas room session said replied is in omega arith
@@ -98,7 +98,7 @@ pub last_over : (p : Phase) → IsLast p → is_over p ≡ true
 last_over _ (untold reason) = refl
 last_over _ is_gone = refl
 
-message_closed : {F : Type 0} (schemas : Schemas F) (k : ℕ) (room : Room) (n : ℕ) (said : ClientMessage) (replied : Replied) → after_message schemas room n said ≡ Some replied
+message_closed : (schemas : Schemas) (k : ℕ) (room : Room) (n : ℕ) (said : ClientMessage) (replied : Replied) → after_message schemas room n said ≡ Some replied
     → is_closed room k ≡ true → is_closed replied.room k ≡ true
 message_closed schemas k room n said replied is h =
     message_turns (λ r. is_closed r k ≡ true) n (λ r j s phase at who here over g. closed_set k r j s _ at (λ o. last_over phase over) g) (λ r j is g. g) schemas room n refl said
@@ -117,7 +117,7 @@ given_over room n s _ _ (answers request reached plan is) o = absurd (differ (sy
 given_over room n s _ _ (pongs some) o = o
 given_over room n s _ _ (tells sent plan is less) o = absurd (differ (sym o ∙ ap is_over is))
 
-drain_closed : {F : Type 0} (schemas : Schemas F) (k : ℕ) (room : Room) (n : ℕ) (given : Given) → next_for schemas room n ≡ Some given
+drain_closed : (schemas : Schemas) (k : ℕ) (room : Room) (n : ℕ) (given : Given) → next_for schemas room n ≡ Some given
     → is_closed room k ≡ true → is_closed (after_drain room n given) k ≡ true
 drain_closed schemas k room n given is h =
     let on = drain_gives schemas room n given is in
@@ -137,7 +137,7 @@ removals_added before after (k ∷ ks) history all h =
 closing_removals : (before after : Room) (ks : List ℕ) → IsClosing before after ks → AllRemovals after before.history → AllRemovals after after.history
 closing_removals before after ks closing h = subst (AllRemovals after) (sym closing.appended) (removals_added before after ks before.history closing.ends h)
 
-appended_removals : {F : Type 0} (schemas : Schemas F) (room : Room) (n : ℕ) (said : ClientMessage) (reply : Handled) (after : Room) (ks : List ℕ)
+appended_removals : (schemas : Schemas) (room : Room) (n : ℕ) (said : ClientMessage) (reply : Handled) (after : Room) (ks : List ℕ)
     → Appends schemas room n said reply after ks → AllRemovals after room.history → AllRemovals after after.history
 appended_removals schemas room n said Taken after ks h all =
     let entry = h.0 in
@@ -146,7 +146,7 @@ appended_removals schemas room n said Entered after ks h all = closing_removals 
 appended_removals schemas room n said Pong after ks h all = closing_removals room after ks h all
 appended_removals schemas room n said (Ended reason) after ks h all = closing_removals room after ks h all
 
-pub reachable_removals : {F : Type 0} (schemas : Schemas F) (room : Room) → Reachable schemas room → AllRemovals room room.history
+pub reachable_removals : (schemas : Schemas) (room : Room) → Reachable schemas room → AllRemovals room room.history
 reachable_removals schemas _ (made last) = tt
 reachable_removals schemas _ (entered readonly room after before is) =
     let next = after_enter readonly room in
@@ -180,7 +180,7 @@ fresh_neither : (p : Phase) → p ≡ new → IsLive p ⊎ (is_over p ≡ true) 
 fresh_neither p is (inl lives) = let e : live lives.sent lives.plan ≡ new = sym lives.is ∙ is in absurd (cc)
 fresh_neither p is (inr over) = absurd (differ (sym over ∙ ap is_over is))
 
-message_lives : {F : Type 0} (schemas : Schemas F) (k : ℕ) (room : Room) (n : ℕ) (said : ClientMessage) (replied : Replied) → after_message schemas room n said ≡ Some replied
+message_lives : (schemas : Schemas) (k : ℕ) (room : Room) (n : ℕ) (said : ClientMessage) (replied : Replied) → after_message schemas room n said ≡ Some replied
     → LiveOrOver k room → LiveOrOver k replied.room
 message_lives schemas k room n said replied is h =
     message_turns (LiveOrOver k) n (λ r j s phase at who here over g. live_set k r j s _ at (λ o. inr (last_over phase over)) g) (λ r j is g. g) schemas room n refl said
@@ -242,7 +242,7 @@ apart_ids n k small less apart = elim (ties (presence_id k) (presence_id n)) as 
   | false ↦ λ is. refl
 ] refl
 
-module _ {F : Type 0} (schemas : Schemas F) (lawful : AreLawful schemas) where
+module _ (schemas : Schemas) (lawful : AreLawful schemas) where
   not_named : (n k : ℕ) (id : List ℕ) → n < 2 ^ 64 → k < 2 ^ 64 → (k ≡ n → ⊥) → (schemas.is_document id || is_own n id) ≡ true → not (ties (presence_id k) id) ≡ true
   not_named n k id small less apart named = elim (ties (presence_id k) id) as (λ b. ties (presence_id k) id ≡ b → not b ≡ true) [
     | true ↦ λ is.

@@ -7,7 +7,7 @@ use Rattle.std.proofs.lemmas.Option.{slice_get_within}
 use Rattle.rooms_val.specs.View.{data_of}
 use Rattle.field_ops.specs.RecordOps.{RecordOps}
 use Rattle.doc_model.specs.Marks as marks
-use Rattle.room_model.specs.Schemas.{Schemas}
+use Rattle.room_model.specs.Schemas.{WorldSchemas}
 use Rattle.room_model.specs.Rooms.{Room, Notice, Given, next_for, after_drain}
 use Rattle.room_model.specs.Replicas.{Client, new_client, session_of, Pushing, schema_of}
 use Rattle.room_model.specs.Worlds.{Channel, World, world_over, Stepped, with_client, with_channel, with_pushing, Outcome, happens, at_client, is_at_limit, ask, connect_if_allowed, take_edit, handle_first, deliver_first, after_event}
@@ -104,7 +104,7 @@ module _ (w : World) (queues : Queues) (long : length queues ≡ length w.channe
   }
 
   -- event by event
-  module _ {F : Type 0} (schemas : Schemas F) where
+  module _ {F : Type 0} (schemas : WorldSchemas F) where
     abbrev Goes : Queues → Outcome F → Type 0
     Goes now outcome = Holds (Go now) outcome
 
@@ -165,7 +165,7 @@ map_added : {X Y : Type 0} (f : X → Y) (xs : List X) (x : X) → map f (xs ++ 
 map_added f [] x = refl
 map_added f (y ∷ xs) x = ap (λ rest. f y ∷ rest) (map_added f xs x)
 
-module _ {F : Type 0} (schemas : Schemas F) (w : World) (queues : Queues) (reached : ReachableWorld schemas w) (h : AreQueues schemas w queues) where
+module _ {F : Type 0} (schemas : WorldSchemas F) (w : World) (queues : Queues) (reached : ReachableWorld schemas w) (h : AreQueues schemas w queues) where
   -- who has a session with a channel had it before
   had : (v : World) → IsLater w v → (n k : ℕ) (d : Client) (before : Channel) → slice_get v.clients n ≡ Some d → session_of d.connection ≡ Some k → slice_get w.channels k ≡ Some before → IsCurrent w n k
   had v later n k d before at has there =
@@ -194,7 +194,7 @@ module _ {F : Type 0} (schemas : Schemas F) (w : World) (queues : Queues) (reach
   }
 
   -- what the room gives out joins a queue
-  module _ (trace : Bool) (k : ℕ) (channel : Channel) (given_now : Given) (there : slice_get w.channels k ≡ Some channel) (next : next_for schemas w.room k ≡ Some given_now)
+  module _ (trace : Bool) (k : ℕ) (channel : Channel) (given_now : Given) (there : slice_get w.channels k ≡ Some channel) (next : next_for schemas.room w.room k ≡ Some given_now)
       (made : Stepped) (is : after_event schemas trace w (event.Send k) ≡ Ok made) where
     abbrev sent : World
     sent = with_channel k (record channel { to_client = channel.to_client ++ given_now.notice ∷ [] }) (record w { room = after_drain w.room k given_now })
@@ -236,7 +236,7 @@ module _ {F : Type 0} (schemas : Schemas F) (w : World) (queues : Queues) (reach
   sends_on trace k made is =
       let now = queues_after schemas w queues (event.Send k) in
       let P : World → Type 0 = λ v. made.world ≡ v → AreQueues schemas v now in
-      subst (Holds P) is (in_session P k w _ (λ s channel here there. from_option P _ (next_for schemas w.room k) _ (λ none. tt) (λ given_now next same.
+      subst (Holds P) is (in_session P k w _ (λ s channel here there. from_option P _ (next_for schemas.room w.room k) _ (λ none. tt) (λ given_now next same.
       subst (AreQueues schemas _) (sym (ap (λ o. option_map_or (λ (g : Given). with_out k g.out queues) o queues) next)) (given_out trace k channel given_now there next made is same)))) refl
 
   pub queues_go_on : (trace : Bool) (e : Event) (made : Stepped) → after_event schemas trace w e ≡ Ok made → AreQueues schemas made.world (queues_after schemas w queues e)
@@ -245,5 +245,5 @@ module _ {F : Type 0} (schemas : Schemas F) (w : World) (queues : Queues) (reach
     | other ↦ λ is. told_on trace other made _ is (subst (Holds (Go w queues h.long _)) is (goes w queues h.long schemas trace other (λ k no. absurd (cc))))
   ] is
 
-pub queues_begin : {F : Type 0} (schemas : Schemas F) (room : Room) → AreQueues schemas (world_over room) []
+pub queues_begin : {F : Type 0} (schemas : WorldSchemas F) (room : Room) → AreQueues schemas (world_over room) []
 queues_begin schemas room = record { long = refl; told_are = λ n k c channel at. absurd (cc) }

@@ -2,7 +2,7 @@
 use Rattle.std.proofs.Common.{◌≡◌, ◌⊎◌, inl, inr, ℕ, zero, suc, nat_lt, ℤ, Bool, true, false, ◌&&◌, cond, List, [], ◌∷◌, ◌++◌, length, slice_get, slice_set, Option, Some, None, option_map, Ok, refl, sym, ap, subst, ◌∙◌, arith}
 use Rattle.std.specs.Prelude.{decimal}
 use Rattle.std.specs.Option.{option_map_or}
-use Rattle.room_model.specs.Schemas.{Schemas, Plan}
+use Rattle.room_model.specs.Schemas.{WorldSchemas, Plan}
 use Rattle.room_model.specs.Histories.{History}
 use Rattle.room_model.specs.Closing.{is_closed}
 use Rattle.room_model.specs.Reachable.{is_over}
@@ -33,7 +33,7 @@ use Rattle.world_laws.proofs.DownLemmas.{sent_stand}
 use Rattle.world_laws.proofs.PresenceLemmas.{closed_set, last_over}
 use Rattle.world_laws.proofs.TurnLemmas.{IsLast, untold, left, slow_ended, after_closed, leave_turns}
 
-module _ {F : Type 0} (schemas : Schemas F) where
+module _ {F : Type 0} (schemas : WorldSchemas F) where
   -- one channel, in any state
 
   -- nothing is in flight from a client that asks, by a phase that isn't new
@@ -91,7 +91,7 @@ module _ {F : Type 0} (schemas : Schemas F) where
   same_heard : (c d : Client) (k : ℕ) (p : Phase) (ms : List ClientMessage) → d.connection ≡ c.connection → d.reached ≡ c.reached → d.version ≡ c.version
       → IsHeard schemas c k p ms → IsHeard schemas d k p ms
   same_heard c d k p ms connection reached version h =
-      let plan_is : plan_of schemas d ≡ plan_of schemas c = ap (λ v. schemas.plan_for (schemas.client v).versions) version in
+      let plan_is : plan_of schemas d ≡ plan_of schemas c = ap (λ v. schemas.room.plan_for (schemas.client v).versions) version in
       elim p as (λ p. IsHeard schemas c k p ms → IsHeard schemas d k p ms) [
         | new ↦ λ h. (connection ∙ h.0, h.1 ∙ ap (λ m. m ∷ []) (sym (same_request c d k reached version)))
         | asked request r plan ↦ λ h. (connection ∙ h.0, h.1, h.2, h.3 ∙ sym reached, plan_is ∙ h.4)
@@ -151,7 +151,7 @@ over_not_new p over is = differ (sym over ∙ ap is_over is)
 
 -- all channels of a world
 
-module _ {F : Type 0} (schemas : Schemas F) where
+module _ {F : Type 0} (schemas : WorldSchemas F) where
   heard_phase : (w : World) (n : ℕ) (s t : Session) → slice_get w.room.sessions n ≡ Some s
       → ((c : Client) (ms : List ClientMessage) → IsHeard schemas c n s.phase ms → IsHeard schemas c n t.phase ms) → AreHeard schemas w → AreHeard schemas (record w { room = with_session n t w.room })
   heard_phase w n s t at turn h m k c u ch client has session channel = elim (got_split w.room.sessions n k t u session) [
@@ -226,7 +226,7 @@ module _ {F : Type 0} (schemas : Schemas F) where
       → d.version ≡ c.version → (d.connection ≡ Asking k → c.connection ≡ Asking k) → IsHeard schemas c k p ms → IsHeard schemas d k p ms
   come_heard c d k new notice notices last ms sent version asks h = absurd (let no = sent.0 in cc)
   come_heard c d k (asked request reached plan) notice notices last ms sent version asks h = absurd (let no = sent.0 in cc)
-  come_heard c d k (live at plan) notice notices last ms sent version asks h = (λ is. h.0 (asks is), ap (λ v. schemas.plan_for (schemas.client v).versions) version ∙ h.1)
+  come_heard c d k (live at plan) notice notices last ms sent version asks h = (λ is. h.0 (asks is), ap (λ v. schemas.room.plan_for (schemas.client v).versions) version ∙ h.1)
   come_heard c d k (ended reason told) notice notices last ms sent version asks h = λ is. h (asks is)
   come_heard c d k gone notice notices last ms sent version asks h = λ is. h (asks is)
 
@@ -337,7 +337,7 @@ module _ {F : Type 0} (schemas : Schemas F) where
 
   -- a request becomes what the session has asked
   request_asked : (e : Client) (k : ℕ) (ms : List ClientMessage) (said : ClientMessage) (request : List ℕ) (reached protocol : ℤ) (versions : _) (plan : Plan) → IsHeard schemas e k new (said ∷ ms)
-      → said ≡ message.Connect request reached protocol versions → schemas.plan_for versions ≡ Ok plan → IsHeard schemas e k (asked request reached plan) ms
+      → said ≡ message.Connect request reached protocol versions → schemas.room.plan_for versions ≡ Ok plan → IsHeard schemas e k (asked request reached plan) ms
   request_asked e k ms said request reached protocol versions plan h says planned =
       let is : said ∷ ms ≡ request_of schemas e k ∷ [] = h.1 in
       let none : ms ≡ [] = cc in
@@ -345,11 +345,11 @@ module _ {F : Type 0} (schemas : Schemas F) where
       let r : request ≡ decimal k = cc in
       let c : reached ≡ e.reached = cc in
       let v : versions ≡ (schema_of schemas e).versions = cc in
-      (h.0, none, r, c, ap schemas.plan_for (sym v) ∙ planned)
+      (h.0, none, r, c, ap schemas.room.plan_for (sym v) ∙ planned)
 
   heard_asked : (w : World) (k : ℕ) (s : Session) (channel : Channel) (said : ClientMessage) (messages : List ClientMessage) (request : List ℕ) (reached protocol : ℤ) (versions : _) (plan : Plan)
       → slice_get w.room.sessions k ≡ Some s → slice_get w.channels k ≡ Some channel → channel.to_room ≡ said ∷ messages → s.phase ≡ new
-      → said ≡ message.Connect request reached protocol versions → schemas.plan_for versions ≡ Ok plan → AreHeard schemas w
+      → said ≡ message.Connect request reached protocol versions → schemas.room.plan_for versions ≡ Ok plan → AreHeard schemas w
       → AreHeard schemas (record w { room = with_session k (record s { phase = asked request reached plan }) w.room; channels = slice_set w.channels k (record channel { to_room = messages }) })
   heard_asked w k s channel said messages request reached protocol versions plan at there first is says planned h m j e u ch client has session to =
       let t : Session = record s { phase = asked request reached plan } in
@@ -385,10 +385,10 @@ module _ {F : Type 0} (schemas : Schemas F) where
       (λ r j is g. (g.0, g.1)) n r (long, h)).1
 
   heard_handled : (w : World) (k : ℕ) (channel : Channel) (said : ClientMessage) (messages : List ClientMessage) (replied : Replied) → IsNoPing said → slice_get w.channels k ≡ Some channel
-      → channel.to_room ≡ said ∷ messages → after_message schemas w.room k said ≡ Some replied → AreHeard schemas w
+      → channel.to_room ≡ said ∷ messages → after_message schemas.room w.room k said ≡ Some replied → AreHeard schemas w
       → AreHeard schemas (with_channel k (record channel { to_room = messages }) (record w { room = replied.room }))
   heard_handled w k channel said messages replied no_ping there first is h =
-      let on = message_receives schemas w.room k said replied is in
+      let on = message_receives schemas.room w.room k said replied is in
       let s = on.0 in
       let at = on.1.at in
       let v = with_channel k (record channel { to_room = messages }) w in
@@ -403,7 +403,7 @@ module _ {F : Type 0} (schemas : Schemas F) where
             (λ m e u client has session asks.
             tail_none e k u.phase said messages (subst (IsHeard schemas e k u.phase) first (h m k e u channel client has session there)) asks) h))
         | takes sent plan push says is taken ↦
-            let now : Room = record w.room { history = pushed_by schemas w.room k s plan push ∷ w.room.history } in
+            let now : Room = record w.room { history = pushed_by schemas.room w.room k s plan push ∷ w.room.history } in
             heard_slow v (length now.sessions) now refl
             (heard_popped w k s channel said messages at there first (λ fresh. absurd (let e : live sent plan ≡ new = sym is ∙ fresh in cc)) h)
       ]
@@ -436,7 +436,7 @@ module _ {F : Type 0} (schemas : Schemas F) where
     handles = λ w k channel said messages replied made at first is h.
         heard_handled w k channel said messages replied (subst AreNoPings first ((pings_stand schemas w made).none_sent k channel at)).0 at first is h;
     sends = λ w k channel given made at is h.
-        let on = drain_gives schemas w.room k given is in
+        let on = drain_gives schemas.room w.room k given is in
         heard_channel (record w { room = after_drain w.room k given }) k channel _ at refl
         (heard_phase w k on.0 given.after on.1.at (λ c ms i. given_heard schemas w.room k on.0 given.notice given.after c k ms on.2 i) h);
     delivers = λ w n k c channel notice notices made at is there first h.

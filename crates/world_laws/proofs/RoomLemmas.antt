@@ -30,7 +30,7 @@ there room n s is =
     ] refl h.2
 
 -- what a message of a session makes of the room
-pub data Receives {F : Type 0} (schemas : Schemas F) (room : Room) (n : ℕ) (s : Session) (said : ClientMessage) : Room → Type 0 where
+pub data Receives (schemas : Schemas) (room : Room) (n : ℕ) (s : Session) (said : ClientMessage) : Room → Type 0 where
   ignores : is_over s.phase ≡ true → Receives schemas room n s said room
   asks_now : (request : List ℕ) (reached : _) (protocol : _) (versions : Versions) (plan : Plan) → said ≡ message.Connect request reached protocol versions → s.phase ≡ new
       → schemas.plan_for versions ≡ Ok plan → Receives schemas room n s said (with_session n (record s { phase = asked request reached plan }) room)
@@ -39,7 +39,7 @@ pub data Receives {F : Type 0} (schemas : Schemas F) (room : Room) (n : ℕ) (s 
   takes : (sent : ℕ) (plan : Plan) (push : Push) → push_of said ≡ Some push → s.phase ≡ live sent plan → is_taken schemas (member_of n s plan) push ≡ true
       → Receives schemas room n s said (after_entry (pushed_by schemas room n s plan push) room)
 
-module _ {F : Type 0} (schemas : Schemas F) (room : Room) (n : ℕ) (s : Session) where
+module _ (schemas : Schemas) (room : Room) (n : ℕ) (s : Session) where
   plans : (said : ClientMessage) (ask : Ask) (planned : Result Plan EndReason) → said ≡ message.Connect ask.request ask.reached ask.protocol ask.versions
       → schemas.plan_for ask.versions ≡ planned → s.phase ≡ new → Receives schemas room n s said (after_plan n s ask room planned).room
   plans said ask (Ok plan) says planned is = asks_now ask.request ask.reached ask.protocol ask.versions plan says is planned
@@ -90,7 +90,7 @@ mapped : {X Y : Type 0} (f : X → Y) (o : Option X) (y : Y) → option_map f o 
 mapped f None y is = absurd (cc)
 mapped f (Some x) y is = let same : f x ≡ y = cc in (x, refl, same)
 
-pub message_receives : {F : Type 0} (schemas : Schemas F) (room : Room) (n : ℕ) (said : ClientMessage) (replied : Replied) → after_message schemas room n said ≡ Some replied
+pub message_receives : (schemas : Schemas) (room : Room) (n : ℕ) (said : ClientMessage) (replied : Replied) → after_message schemas room n said ≡ Some replied
     → (s : Session) × IsThere room n s × Receives schemas room n s said replied.room
 message_receives schemas room n said replied is =
     let h = mapped _ _ replied is in
@@ -128,7 +128,7 @@ pub data Gives (room : Room) (n : ℕ) (s : Session) : Notice → Session → Ty
   tells : (sent : ℕ) (plan : Plan) → s.phase ≡ live sent plan → sent < length room.history
       → Gives room n s (updates_between sent (length room.history)) (record s { phase = live (length room.history) plan })
 
-module _ {F : Type 0} (schemas : Schemas F) (room : Room) (n : ℕ) (s : Session) where
+module _ (schemas : Schemas) (room : Room) (n : ℕ) (s : Session) where
   abbrev IsGiven : Option Given → Type 0
   IsGiven None = Unit {0}
   IsGiven (Some given) = Gives room n s given.notice given.after
@@ -148,7 +148,7 @@ module _ {F : Type 0} (schemas : Schemas F) (room : Room) (n : ℕ) (s : Session
   given_in (ended reason false) is = tells_end reason is
   given_in gone is = tt
 
-pub drain_gives : {F : Type 0} (schemas : Schemas F) (room : Room) (n : ℕ) (given : Given) → next_for schemas room n ≡ Some given
+pub drain_gives : (schemas : Schemas) (room : Room) (n : ℕ) (given : Given) → next_for schemas room n ≡ Some given
     → (s : Session) × IsThere room n s × Gives room n s given.notice given.after
 drain_gives schemas room n given is =
     let h = chained (λ s. next_in schemas room n s s.phase) (session_at n room) given is in
@@ -172,7 +172,7 @@ module _ (P : Room → Type 0)
         | leaves_open here ↦ after_closed room n on.0 gone on.1.at refl h
       ]
 
-  module _ {F : Type 0} (schemas : Schemas F)
+  module _ (schemas : Schemas)
       (pushed : (room : Room) (n : ℕ) (s : Session) (sent : ℕ) (plan : Plan) (push : Push) → slice_get room.sessions n ≡ Some s → s.phase ≡ live sent plan
       → is_taken schemas (member_of n s plan) push ≡ true → P room → P (record room { history = pushed_by schemas room n s plan push ∷ room.history })) where
     pub message_keeps : (room : Room) (n : ℕ) (said : ClientMessage) (replied : Replied) → after_message schemas room n said ≡ Some replied → P room → P replied.room

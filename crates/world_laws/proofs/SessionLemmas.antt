@@ -1,6 +1,6 @@
 -- The sessions of worlds that can be reached.
 use Rattle.std.proofs.Common.{◌≡◌, ◌⊎◌, inl, inr, ℕ, suc, ◌≤◌, Bool, List, [], ◌∷◌, ◌++◌, length, slice_get, slice_set, Some, None, refl, sym, ap, subst, ◌∙◌, arith}
-use Rattle.room_model.specs.Schemas.{Schemas}
+use Rattle.room_model.specs.Schemas.{Schemas, WorldSchemas}
 use Rattle.room_model.specs.Histories.{History}
 use Rattle.room_model.specs.Rooms.{Room, Replied, after_message, after_leave, Notice, snapshot_at, updates_between, pong, end}
 use Rattle.room_model.specs.Replicas.{Client, new_client, session_of, Pushing, push_all, with_work, after_cut, after_end, after_notice}
@@ -17,7 +17,7 @@ use Rattle.world_laws.proofs.PushLemmas.{long-set, long-added, snapshot_same, wo
 use Rattle.world_laws.proofs.RoomLemmas.{message_keeps, leave_keeps}
 
 -- a message and a leave change the number of no sessions
-pub message_long : {F : Type 0} (schemas : Schemas F) (room : Room) (n : ℕ) (said : ClientMessage) (replied : Replied) → after_message schemas room n said ≡ Some replied
+pub message_long : (schemas : Schemas) (room : Room) (n : ℕ) (said : ClientMessage) (replied : Replied) → after_message schemas room n said ≡ Some replied
     → length replied.room.sessions ≡ length room.sessions
 message_long schemas room n said replied is =
     message_keeps (λ r. length r.sessions ≡ length room.sessions) (λ r n s t at on same. long-set r.sessions n t ∙ same) (λ r n is same. same) schemas
@@ -68,7 +68,7 @@ notice_less history k c (updates_between from to) has j is = is
 notice_less history k c pong has j is = is
 notice_less history k c (end reason) has j is = end_less reason c j is
 
-pub act_less : {F : Type 0} (schemas : Schemas F) (c : Client) (p : Pushing) → Acts schemas c p → IsLess c p.client
+pub act_less : {F : Type 0} (schemas : WorldSchemas F) (c : Client) (p : Pushing) → Acts schemas c p → IsLess c p.client
 act_less schemas c _ (rests d q) = same_less c d q.connection
 act_less schemas c _ (works d work q place rising) = same_less c (push_all (with_work work d)).client ((work_same d work).connection ∙ q.connection)
 
@@ -86,7 +86,7 @@ joined cs version m c k is has = elim (got-added cs m (new_client version) c is)
   | inr before ↦ before
 ]
 
-module _ {F : Type 0} (schemas : Schemas F) where
+module _ {F : Type 0} (schemas : WorldSchemas F) where
   -- a client that asks has the session that enters, and the others have what they had
   module _ (w : World) (n : ℕ) (readonly : Bool) (c : Client) (h : AreSessions w) where
     abbrev next : ℕ
@@ -135,7 +135,7 @@ module _ {F : Type 0} (schemas : Schemas F) where
         let long = leave_long w.room room k is in
         sessions_kept w _ (long-set w.channels k _ ∙ h.channels ∙ sym long) (omega arith) (λ m j on. record { client = on.client; made = on.made; has = on.has }) h;
     handles = λ w k channel said messages replied made at first is h.
-        let long = message_long schemas w.room k said replied is in
+        let long = message_long schemas.room w.room k said replied is in
         sessions_kept w _ (long-set w.channels k _ ∙ h.channels ∙ sym long) (omega arith) (λ m j on. record { client = on.client; made = on.made; has = on.has }) h;
     sends = λ w k channel given made at is h.
         let long = long-set w.room.sessions k given.after in

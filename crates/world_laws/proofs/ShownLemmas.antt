@@ -3,7 +3,7 @@ use Rattle.std.proofs.Common.{◌≡◌, ℕ, zero, suc, ◌≤◌, nat_lt, pos,
 use Rattle.std.specs.Option.{option_map_or}
 use Rattle.std.proofs.lemmas.Bool.Decides.{nat_tests}
 use Rattle.doc_model.specs.Documents.{replay}
-use Rattle.room_model.specs.Schemas.{Schemas, Plan, doc, seen_along}
+use Rattle.room_model.specs.Schemas.{WorldSchemas, Plan, doc, seen_along}
 use Rattle.room_model.specs.Histories.{History, records_of, oldest, up_to}
 use Rattle.room_model.specs.Rooms.{Notice, snapshot_at, updates_between, pong, end}
 use Rattle.room_model.specs.Replicas.{Client, new_client, is_open, Pushing, push_none, push_one, first_unsent, next_push, push_times, with_work, pending_diffs, after_end, after_notice, schema_of, plan_of, seen_by, base_of, shown_document}
@@ -24,12 +24,12 @@ oldest_all (entry ∷ history) =
     let before : nat_lt (length history) (suc (length history)) ≡ true = grind (arith, nat_tests) in
     ap (λ b. cond b (entry ∷ history) (oldest (suc (length history)) history)) before
 
-module _ {F : Type 0} (schemas : Schemas F) where
+module _ {F : Type 0} (schemas : WorldSchemas F) where
   reached_fit : (c : Client) (clock : ℕ) → c.reached ≡ pos clock → HasReachedFit schemas c → IsFit schemas c
   reached_fit c clock is h = elim h [ inl fit ↦ fit | inr none ↦ absurd (let no : pos clock ≡ negsuc 0 = sym is ∙ none.0 in cc) ]
 
   pub shows_room : (w : World) (n : ℕ) (c : Client) → ReachableWorld schemas w → slice_get w.clients n ≡ Some c → c.reached ≡ pos (length w.room.history) → pending_diffs c ≡ []
-      → (plan : Plan) × (plan_of schemas c ≡ Ok plan) × (shown_document schemas w.room.history c ≡ seen_along schemas plan (doc schemas (records_of w.room.history)))
+      → (plan : Plan) × (plan_of schemas c ≡ Ok plan) × (shown_document schemas w.room.history c ≡ seen_along schemas.room plan (doc schemas.room (records_of w.room.history)))
   shows_room w n c made at reached none =
       let history = w.room.history in
       let fit = reached_fit c (length history) reached ((barred_stand schemas w made).reached n c at) in
@@ -37,8 +37,8 @@ module _ {F : Type 0} (schemas : Schemas F) where
         fit.0,
         fit.1,
         ap (replay (schema_of schemas c).admits (base_of schemas history c)) none
-            ∙ ap (λ h. seen_by schemas (plan_of schemas c) (doc schemas (records_of h))) all
-            ∙ ap (λ o. seen_by schemas o (doc schemas (records_of history))) fit.1,
+            ∙ ap (λ h. seen_by schemas (plan_of schemas c) (doc schemas.room (records_of h))) all
+            ∙ ap (λ o. seen_by schemas o (doc schemas.room (records_of history))) fit.1,
       )
 
 -- how often clients push
@@ -77,11 +77,11 @@ few_notice history k c (updates_between from to) few = few
 few_notice history k c pong few = few
 few_notice history k c (end reason) few = few_end reason c few
 
-few_act : {F : Type 0} (schemas : Schemas F) (c : Client) (p : Pushing) → Acts schemas c p → Few c → Few p.client
+few_act : {F : Type 0} (schemas : WorldSchemas F) (c : Client) (p : Pushing) → Acts schemas c p → Few c → Few p.client
 few_act schemas c _ (rests d q) few = subst (λ n. n ≤ MOST_PUSHES) (sym q.pushes) few
 few_act schemas c _ (works d work q place rising) few = few_pushed (length (with_work work d).pending) (with_work work d) (subst (λ n. n ≤ MOST_PUSHES) (sym q.pushes) few)
 
-module _ {F : Type 0} (schemas : Schemas F) where
+module _ {F : Type 0} (schemas : WorldSchemas F) where
   few_keep : Keeps schemas AreFewPushes
   few_keep = record {
     joins = λ w version made h. each_added Few w.clients (new_client version) h (omega arith);

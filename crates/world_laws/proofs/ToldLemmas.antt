@@ -3,7 +3,7 @@ use Rattle.std.proofs.Common.{◌≡◌, ℕ, ◌-◌, ◌≤◌, nat_lt, Bool, 
 use Rattle.std.specs.Prelude.{decimal, get_or}
 use Rattle.std.specs.Option.{option_map_or}
 use Rattle.std.proofs.lemmas.Option.{same_Some, slice_get-get_or}
-use Rattle.room_model.specs.Schemas.{Schemas, Plan}
+use Rattle.room_model.specs.Schemas.{WorldSchemas, Plan}
 use Rattle.room_model.specs.Histories.{oldest}
 use Rattle.room_model.specs.Messages.{snapshot, updates}
 use Rattle.room_model.specs.Rooms.{Phase, new, asked, live, ended, gone, Session, Room, Notice, snapshot_at, updates_between, pong, end, Given, pong_or, next_in, next_for, session_at, after_drain}
@@ -29,14 +29,14 @@ use Rattle.world_laws.proofs.ShownLemmas.{oldest_all}
 use Rattle.world_laws.proofs.LaterLemmas.{got_at, event_later}
 
 -- the session of a client that is made, in a world
-pub session_in : {F : Type 0} (schemas : Schemas F) (w : World) (n k : ℕ) (c : Client) → ReachableWorld schemas w → slice_get w.clients n ≡ Some c → session_of c.connection ≡ Some k
+pub session_in : {F : Type 0} (schemas : WorldSchemas F) (w : World) (n k : ℕ) (c : Client) → ReachableWorld schemas w → slice_get w.clients n ≡ Some c → session_of c.connection ≡ Some k
     → (s : Session) × (slice_get w.room.sessions k ≡ Some s)
 session_in schemas w n k c made at has =
     let less = (sessions_stand schemas w made).entered n k (record { client = c; made = at; has = has }) in
     let d : Session = record { readonly = false; pings = 0; phase = gone } in
     (get_or w.room.sessions k d, slice_get-get_or w.room.sessions k d less)
 
-module _ {F : Type 0} (schemas : Schemas F) where
+module _ {F : Type 0} (schemas : WorldSchemas F) where
   -- a member is told by a room that has the session, as read-only
   member_same : (room : Room) (c : Client) (k : ℕ) (s : Session) (readonly : Bool) (plan : Plan) → slice_get room.sessions k ≡ Some s → s.readonly ≡ readonly → plan_of schemas c ≡ Ok plan
       → record { session = k; readonly = readonly; plan = plan } ≡ member_in schemas room c k
@@ -64,25 +64,25 @@ module _ {F : Type 0} (schemas : Schemas F) where
         let given : Given = record { out = Message reply.Pong; notice = pong; after = record s { pings = s.pings - 1 } } in
         elim (nat_lt 0 s.pings) as (λ b. IsTold_if (cond b (Some given) later)) [ true ↦ refl | false ↦ h ]
 
-    given_told : (phase : Phase) (messages : List ClientMessage) → IsHeard schemas c k phase messages → IsTold_if (next_in schemas room k s phase)
+    given_told : (phase : Phase) (messages : List ClientMessage) → IsHeard schemas c k phase messages → IsTold_if (next_in schemas.room room k s phase)
     given_told new messages heard = told_pong None tt
     given_told (asked request reached plan) messages heard =
         let clock = length room.history in
         let after : Session = record s { phase = live clock plan } in
         let member = member_after after plan refl heard.4 in
         let all = sym (oldest_all room.history) in
-        λ i. Message (snapshot schemas (member i) (heard.2 i) (heard.3 i) room.first (all i))
+        λ i. Message (snapshot schemas.room (member i) (heard.2 i) (heard.3 i) room.first (all i))
     given_told (live sent plan) messages heard =
         let clock = length room.history in
         let after : Session = record s { phase = live clock plan } in
         let member = member_after after plan refl heard.1 in
         let all = sym (oldest_all room.history) in
         told_pong _ (elim (nat_lt sent clock) as (λ b. IsTold_if (cond b (Some (record {
-          out = Message (updates schemas (record { session = k; readonly = s.readonly; plan = plan }) sent room.history);
+          out = Message (updates schemas.room (record { session = k; readonly = s.readonly; plan = plan }) sent room.history);
           notice = updates_between sent clock;
           after = after;
         })) None)) [
-          | true ↦ λ i. Message (updates schemas (member i) sent (all i))
+          | true ↦ λ i. Message (updates schemas.room (member i) sent (all i))
           | false ↦ tt
         ])
     given_told (ended reason true) messages heard = tt
@@ -90,10 +90,10 @@ module _ {F : Type 0} (schemas : Schemas F) where
     given_told gone messages heard = tt
 
   pub sent_told : (w : World) (n k : ℕ) (c : Client) (channel : Channel) (given : Given) → ReachableWorld schemas w → slice_get w.clients n ≡ Some c
-      → session_of c.connection ≡ Some k → slice_get w.channels k ≡ Some channel → next_for schemas w.room k ≡ Some given
+      → session_of c.connection ≡ Some k → slice_get w.channels k ≡ Some channel → next_for schemas.room w.room k ≡ Some given
       → given.out ≡ told schemas (after_drain w.room k given) c k given.notice
   sent_told w n k c channel given made at has opened is =
-      let h = chained (λ s. next_in schemas w.room k s s.phase) (session_at k w.room) given is in
+      let h = chained (λ s. next_in schemas.room w.room k s s.phase) (session_at k w.room) given is in
       let found = (there w.room k h.0 h.1).at in
       let heard = heard_stand schemas w made n k c h.0 channel at has found opened in
       subst (IsTold_if w.room c k h.0 found) h.2 (given_told w.room c k h.0 found h.0.phase channel.to_room heard)
@@ -106,10 +106,10 @@ module _ {F : Type 0} (schemas : Schemas F) where
     Same notices = map (told schemas v.room d k) notices ≡ map (told schemas w.room c k) notices
 
     told_snapshot : (clock : ℕ) → clock ≤ length w.room.history → d.reached ≡ c.reached → told schemas v.room d k (snapshot_at clock) ≡ told schemas w.room c k (snapshot_at clock)
-    told_snapshot clock less reached = λ i. Message (snapshot schemas (members i) (decimal k) (reached i) (first i) (same clock less i))
+    told_snapshot clock less reached = λ i. Message (snapshot schemas.room (members i) (decimal k) (reached i) (first i) (same clock less i))
 
     told_updates : (from to : ℕ) → to ≤ length w.room.history → told schemas v.room d k (updates_between from to) ≡ told schemas w.room c k (updates_between from to)
-    told_updates from to less = λ i. Message (updates schemas (members i) from (same to less i))
+    told_updates from to less = λ i. Message (updates schemas.room (members i) from (same to less i))
 
     all_told : (place : Option ℕ) (notices later : List Notice) (last : Option ℕ) → Lead place (notices ++ later) last → AreWithin (length w.room.history) notices
         → (place ≡ None → d.reached ≡ c.reached) → Same notices
@@ -146,7 +146,7 @@ module _ {F : Type 0} (schemas : Schemas F) where
       let session = session_in schemas w n k c reached at has in
       let then = goes.room.sessions k session.0 session.1 in
       let version : d.version ≡ c.version = sym (ap (λ (x : Client). x.version) it) ∙ like.2.version in
-      let plans : plan_or_none (plan_of schemas d) ≡ plan_or_none (plan_of schemas c) = ap (λ v. plan_or_none (schemas.plan_for (schemas.client v).versions)) version in
+      let plans : plan_or_none (plan_of schemas d) ≡ plan_or_none (plan_of schemas c) = ap (λ v. plan_or_none (schemas.room.plan_for (schemas.client v).versions)) version in
       let readonly : option_map_or (λ (s : Session). s.readonly) (slice_get v.room.sessions k) false ≡ option_map_or (λ (s : Session). s.readonly) (slice_get w.room.sessions k) false =
       ap (λ o. option_map_or (λ (s : Session). s.readonly) o false) then.1 ∙ then.2 ∙ sym (ap (λ o. option_map_or (λ (s : Session). s.readonly) o false) session.1) in
       let members : member_in schemas v.room d k ≡ member_in schemas w.room c k = λ i. record { session = k; readonly = readonly i; plan = plans i } in

@@ -69,7 +69,7 @@ module _ (P : Room → Type 0) (own : ℕ)
       ]
 
   -- what a message keeps
-  module _ {F : Type 0} (schemas : Schemas F) (room : Room) (n : ℕ) (mine : n ≡ own) (said : ClientMessage)
+  module _ (schemas : Schemas) (room : Room) (n : ℕ) (mine : n ≡ own) (said : ClientMessage)
       (asks : (s : Session) (request : List ℕ) (reached : _) (protocol : _) (versions : Versions) (plan : Plan) → slice_get room.sessions n ≡ Some s
       → said ≡ message.Connect request reached protocol versions → s.phase ≡ new → schemas.plan_for versions ≡ Ok plan → P room
       → P (with_session n (record s { phase = asked request reached plan }) room))

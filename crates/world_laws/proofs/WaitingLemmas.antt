@@ -4,7 +4,7 @@ use Rattle.std.specs.Option.{option_map_or}
 use Rattle.std.proofs.lemmas.Bool.Decides.{Decides-eqb}
 use Rattle.std.proofs.lemmas.Option.{slice_get_within}
 use Rattle.field_ops.specs.RecordOps.{RecordOps}
-use Rattle.room_model.specs.Schemas.{Schemas, AreLawful}
+use Rattle.room_model.specs.Schemas.{WorldSchemas, AreLawfulTogether}
 use Rattle.room_model.specs.Histories.{History, is_author}
 use Rattle.room_model.specs.Naming.{AllNamed}
 use Rattle.room_model.specs.Rooms.{live, Session, Notice, snapshot_at, updates_between, pong, end, Replied, after_message}
@@ -64,7 +64,7 @@ work_idle : (c : Client) (work : Work) → is_open c.connection ≡ false → Is
 work_idle c (edit diff) off place = tt
 work_idle c (presence d) off place = differ (sym place ∙ off)
 
-act_idle : {F : Type 0} (schemas : Schemas F) (c : Client) (p : Pushing) → Acts schemas c p → Idle c → Idle p.client
+act_idle : {F : Type 0} (schemas : WorldSchemas F) (c : Client) (p : Pushing) → Acts schemas c p → Idle c → Idle p.client
 act_idle schemas c _ (rests d q) h off = subst AreIdle (sym q.pending) (h (sym (ap is_open q.connection) ∙ off))
 act_idle schemas c _ (works d work q place rising) h off =
     let e = with_work work d in
@@ -86,7 +86,7 @@ notice_asks history k c (end reason) j is = absurd (elim reason as (λ r. (after
   | RoomFull ↦ λ is. absurd (cc)
 ] is)
 
-pub act_asks : {F : Type 0} (schemas : Schemas F) (c : Client) (p : Pushing) → Acts schemas c p → p.client.connection ≡ c.connection
+pub act_asks : {F : Type 0} (schemas : WorldSchemas F) (c : Client) (p : Pushing) → Acts schemas c p → p.client.connection ≡ c.connection
 act_asks schemas c _ (rests d q) = q.connection
 act_asks schemas c _ (works d work q place rising) = (work_same d work).connection ∙ q.connection
 
@@ -100,8 +100,8 @@ other_author k n apart = elim (n == k) as (λ b. (n == k) ≡ b → b ≡ false)
   | false ↦ λ is. refl
 ] refl
 
-module _ {F : Type 0} (schemas : Schemas F) (lawful : AreLawful schemas) where
-  pub none_next : (sessions : List Session) (history : History) → AllNamed schemas sessions history → NoneBy (length sessions) history
+module _ {F : Type 0} (schemas : WorldSchemas F) (lawful : AreLawfulTogether schemas) where
+  pub none_next : (sessions : List Session) (history : History) → AllNamed schemas.room sessions history → NoneBy (length sessions) history
   none_next sessions [] h = tt
   none_next sessions (entry ∷ history) h = (
     elim entry.author as (λ o. entry.author ≡ o → is_author (length sessions) o ≡ false) [
@@ -125,10 +125,10 @@ module _ {F : Type 0} (schemas : Schemas F) (lawful : AreLawful schemas) where
 
   -- a room in which others pushed
   waiting_handled : (w : World) (k : ℕ) (channel : Channel) (said : ClientMessage) (messages : List ClientMessage) (replied : Replied) → ReachableWorld schemas w
-      → slice_get w.channels k ≡ Some channel → channel.to_room ≡ said ∷ messages → after_message schemas w.room k said ≡ Some replied → AreWaiting w
+      → slice_get w.channels k ≡ Some channel → channel.to_room ≡ said ∷ messages → after_message schemas.room w.room k said ≡ Some replied → AreWaiting w
       → (m j : ℕ) (e : Client) → slice_get w.clients m ≡ Some e → e.connection ≡ Asking j → NoneBy j replied.room.history
   waiting_handled w k channel said messages replied made there first is h m j e at asks =
-      message_turns (λ r. NoneBy j r.history) k (λ r n s phase from who here over g. g) (λ r n is g. (refl, g)) schemas w.room k refl said
+      message_turns (λ r. NoneBy j r.history) k (λ r n s phase from who here over g. g) (λ r n is g. (refl, g)) schemas.room w.room k refl said
       (λ s request reached protocol versions plan from says is planned g. g)
       (λ s count from says g. g)
       (λ s sent plan push from says is taken g. (
@@ -154,7 +154,7 @@ module _ {F : Type 0} (schemas : Schemas F) (lawful : AreLawful schemas) where
         let next = length w.room.sessions in
         let d : Client = record c { connection = Asking next } in
         let closed_now : is_open c.connection ≡ false = elim c.connection as (λ x. session_of x ≡ None → is_open x ≡ false) [ Off ↦ λ o. refl | Asking k ↦ λ o. absurd (cc) | Open k ↦ λ o. absurd (cc) ] off in
-        let fresh = none_next w.room.sessions w.room.history (reachable_names schemas lawful w.room (room_reached schemas lawful w made)) in
+        let fresh = none_next w.room.sessions w.room.history (reachable_names schemas.room lawful.room w.room (room_reached schemas lawful w made)) in
         let now = waiting_client w n d (λ o. h.idle n c at closed_now) (λ k is. (let it : next ≡ k = cc in subst (λ j. NoneBy j w.room.history) it fresh)) h in
         record { idle = now.idle; none = now.none };
     loses = λ w k channel room made at is h. record {

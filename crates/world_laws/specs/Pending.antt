@@ -61,7 +61,7 @@ abbrev pub goes_on : Phase → Bool
 goes_on (live sent plan) = true
 goes_on phase = false
 
-module _ {F : Type 0} (schemas : Schemas F) where
+module _ (schemas : Schemas) where
   -- an entry answers the push of a work under a number
   pub record IsAnswer (number : ℕ) (work : Work) (entry : Entry) : Type 0 where
     -- it has the number

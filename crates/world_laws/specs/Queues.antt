@@ -1,7 +1,7 @@
 -- The messages in flight to clients, as the room gave them out.
 use Rattle.std.specs.Prelude.{◌≡◌, ℕ, List, [], ◌∷◌, ◌++◌, length, map, drop, get_or, slice_get, slice_set, Some}
 use Rattle.std.specs.Option.{option_map_or}
-use Rattle.room_model.specs.Schemas.{Schemas}
+use Rattle.room_model.specs.Schemas.{WorldSchemas}
 use Rattle.room_model.specs.Rooms.{next_for}
 use Rattle.room_model.specs.Replicas.{Client, session_of}
 use Rattle.room_model.specs.Worlds.{Channel, World}
@@ -26,12 +26,12 @@ without_first k queues = slice_set queues k (drop 1 (queue_at k queues))
 abbrev pub with_out : ℕ → Out → Queues → Queues
 with_out k out queues = slice_set queues k (queue_at k queues ++ out ∷ [])
 
-module _ {F : Type 0} (schemas : Schemas F) (world : World) where
+module _ {F : Type 0} (schemas : WorldSchemas F) (world : World) where
   -- the queues after an event: a session that enters has an empty one, what the room gives out joins that of its session, and what a
   -- client is given leaves that of the client's session
   abbrev pub queues_after : Queues → Event → Queues
   queues_after queues (event.Connect number readonly) = queues ++ [] ∷ []
-  queues_after queues (event.Send k) = option_map_or (λ given. with_out k given.out queues) (next_for schemas world.room k) queues
+  queues_after queues (event.Send k) = option_map_or (λ given. with_out k given.out queues) (next_for schemas.room world.room k) queues
   queues_after queues (event.Deliver number) =
       option_map_or (λ client. option_map_or (λ k. without_first k queues) (session_of client.connection) queues) (slice_get world.clients number) queues
   queues_after queues other = queues

@@ -1,6 +1,6 @@
 -- What the room knows of a client on the client's current session, and what it is still to hear.
 use Rattle.std.specs.Prelude.{◌≡◌, ◌⊎◌, ℕ, negsuc, List, [], ◌∷◌, decimal, false, slice_get, Some, Ok}
-use Rattle.room_model.specs.Schemas.{Schemas, Plan}
+use Rattle.room_model.specs.Schemas.{WorldSchemas, Plan}
 use Rattle.room_model.specs.Rooms.{Phase, new, asked, live, ended, gone, Session, Notice, snapshot_at, updates_between, pong, end}
 use Rattle.room_model.specs.Replicas.{Client, is_open, session_of, schema_of, plan_of}
 use Rattle.room_model.specs.Worlds.{Channel, World}
@@ -17,7 +17,7 @@ HasNoData (updates_between from to ∷ notices) = ⊥
 HasNoData (pong ∷ notices) = HasNoData notices
 HasNoData (end reason ∷ notices) = HasNoData notices
 
-module _ {F : Type 0} (schemas : Schemas F) where
+module _ {F : Type 0} (schemas : WorldSchemas F) where
   -- what a client says on a session that it asks for: the session's number, its clock, its schema
   abbrev pub request_of : Client → ℕ → ClientMessage
   request_of client k = Connect (decimal k) client.reached PROTOCOL (schema_of schemas client).versions

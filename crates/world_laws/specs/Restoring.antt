@@ -2,7 +2,7 @@
 use Rattle.std.specs.Prelude.{◌≡◌, ◌≢◌, ℕ, List, slice_get, Bool, Option, Some, option_and_then, Ok}
 use Rattle.rooms_val.specs.Data.{Pairs, map, members_of, IsSound}
 use Rattle.doc_model.specs.Restoring.{Restores}
-use Rattle.room_model.specs.Schemas.{Schemas}
+use Rattle.room_model.specs.Schemas.{WorldSchemas}
 use Rattle.room_model.specs.Rooms.{Notice, end}
 use Rattle.room_model.specs.Replicas.{Client, session_of}
 use Rattle.room_model.specs.Worlds.{World, Stepped, shown_in, after_event}
@@ -26,7 +26,7 @@ Spares world number name (event.Bail client other) = client ≢ number
 Spares world number name (event.Deliver client) = client ≡ number → (reason : EndReason) × (next_to world number ≡ Some (end reason))
 Spares world number name other = Unit {0}
 
-module _ {F : Type 0} (schemas : Schemas F) where
+module _ {F : Type 0} (schemas : WorldSchemas F) where
   -- what a client shows is sound, as each map is that code keeps
   abbrev pub ShowsSound : World → ℕ → Type 0
   ShowsSound world number = (client : Client) → slice_get world.clients number ≡ Some client → IsSound (map (members_of (shown_in schemas world client)))
@@ -38,7 +38,7 @@ module _ {F : Type 0} (schemas : Schemas F) where
     pub restores : Restores name client.marks (shown_in schemas world client) before
 
 -- the worlds that follow when a client that shows a document makes a mark, as long as each event spares it
-pub data IsSinceMark {F : Type 0} (schemas : Schemas F) (number : ℕ) (name : List ℕ) (before : Pairs) : World → Type 0 where
+pub data IsSinceMark {F : Type 0} (schemas : WorldSchemas F) (number : ℕ) (name : List ℕ) (before : Pairs) : World → Type 0 where
   marked : (trace : Bool) (world : World) (client : Client) (made : Stepped) → ReachableWorld schemas world → slice_get world.clients number ≡ Some client
       → shown_in schemas world client ≡ before → after_event schemas trace world (event.Mark number name) ≡ Ok made
       → ShowsSound schemas made.world number → IsSinceMark schemas number name before made.world

@@ -2,7 +2,7 @@
 use Rattle.std.specs.Prelude.{◌≡◌, ℕ, ℤ, int_lt, pos, List, [], ◌∷◌, drop, decimal, slice_get, false, Some, option_map, Result, Ok, Err}
 use Rattle.std.specs.Option.{option_map_or}
 use Rattle.rooms_val.specs.Data.{Pairs}
-use Rattle.room_model.specs.Schemas.{Schemas, Plan, Member, records_with}
+use Rattle.room_model.specs.Schemas.{WorldSchemas, Plan, Member, records_with}
 use Rattle.room_model.specs.Histories.{History, oldest, up_to}
 use Rattle.room_model.specs.Messages.{snapshot, updates}
 use Rattle.room_model.specs.Bases.{is_told}
@@ -50,7 +50,7 @@ IsExpected client k (Message (reply.Data events)) = (client.connection ≡ Open 
 IsExpected client k (Message reply.Pong) = client.connection ≡ Open k
 IsExpected client k (End reason) = Unit {0}
 
-module _ {F : Type 0} (schemas : Schemas F) where
+module _ {F : Type 0} (schemas : WorldSchemas F) where
   -- a client as a member of a room, on a session
   abbrev pub member_in : Room → Client → ℕ → Member
   member_in room client k = record {
@@ -62,8 +62,8 @@ module _ {F : Type 0} (schemas : Schemas F) where
   -- what a notice tells a client on a session: what the room gives out at the notice's clock
   abbrev pub told : Room → Client → ℕ → Notice → Out
   told room client k (snapshot_at clock) =
-      Message (snapshot schemas (member_in room client k) (decimal k) client.reached room.first (oldest clock room.history))
-  told room client k (updates_between from to) = Message (updates schemas (member_in room client k) from (oldest to room.history))
+      Message (snapshot schemas.room (member_in room client k) (decimal k) client.reached room.first (oldest clock room.history))
+  told room client k (updates_between from to) = Message (updates schemas.room (member_in room client k) from (oldest to room.history))
   told room client k pong = Message reply.Pong
   told room client k (end reason) = End reason
 
@@ -71,7 +71,7 @@ module _ {F : Type 0} (schemas : Schemas F) where
   abbrev pub base_by : History → Client → Connection → Pairs
   base_by history client Off = base_of schemas history client
   base_by history client (Asking k) = base_of schemas history client
-  base_by history client (Open k) = seen_by schemas (plan_of schemas client) (records_with (is_told schemas k) (reached_records schemas history client))
+  base_by history client (Open k) = seen_by schemas (plan_of schemas client) (records_with (is_told schemas.room k) (reached_records schemas history client))
 
   -- the replica of a client
   abbrev pub replica_of : History → Client → Replica
@@ -81,13 +81,13 @@ module _ {F : Type 0} (schemas : Schemas F) where
   abbrev pub IsTaken : History → Client → Out → Client → Type 0
   IsTaken history client (Message (reply.Connect hydration request protocol versions diff clock readonly)) after =
       (clock ≡ after.reached)
-      × (after_hydration (schema_of schemas client).admits schemas.is_document (replica_of history client).base hydration diff ≡ (replica_of history after).base)
+      × (after_hydration (schema_of schemas client).admits schemas.room.is_document (replica_of history client).base hydration diff ≡ (replica_of history after).base)
   IsTaken history client (Message (reply.Data events)) after =
       (clock_after client.reached events ≡ after.reached)
       × (after_events (schema_of schemas client).admits (replica_of history client) events ≡ replica_of history after)
   IsTaken history client (Message reply.Pong) after = client ≡ after
   IsTaken history client (End reason) after =
-      (client.reached ≡ after.reached) × (records_with schemas.is_document (replica_of history client).base ≡ (replica_of history after).base)
+      (client.reached ≡ after.reached) × (records_with schemas.room.is_document (replica_of history client).base ≡ (replica_of history after).base)
 
   -- a client has the same of the room in two worlds: the history up to its clock, and by that its replica, what it shows, and the others
   pub record HasSame (before after : World) (client : Client) : Type 0 where
