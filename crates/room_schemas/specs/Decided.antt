@@ -1,5 +1,5 @@
 -- What a schema decides for a room.
-use Rattle.std.specs.Prelude.{ℕ, List, [], Bool, true, false, if◌then◌else◌, Option, Some, None, Result, Ok, Err}
+use Rattle.std.specs.Prelude.{ℕ, List, Bool, true, false, if◌then◌else◌, Option, Some, None, Result, Ok, Err}
 use Rattle.rooms_val.specs.Data.{Data}
 use Rattle.migrate_seq.specs.Versions.{Versions}
 use Rattle.migrate_seq.specs.Plans.{migrations_at, plan_answer, newest_versions, are_both_ways}
@@ -9,7 +9,7 @@ use Rattle.schema_core.specs.Admits.{is_admitted, is_document, scope_of}
 use Rattle.schema_core.specs.Tree.{SchemaTree}
 use Rattle.schema_core.specs.declared.row.Scope.{Scope}
 use Rattle.schema_core.specs.declared.row.Scope.TheVariants.{Document, Session, Presence}
-use Rattle.room_model.specs.Schemas.{Schemas, ClientSchema, Plan}
+use Rattle.room_model.specs.Schemas.{Schemas, Plan}
 use Rattle.sync_msgs.specs.declared.end_reason.EndReason.{EndReason}
 use Rattle.sync_msgs.specs.declared.end_reason.EndReason.TheVariants.{ClientTooOld, ServerTooOld}
 
@@ -40,9 +40,9 @@ both_ways_only s (Err fault) = Err ServerTooOld
 abbrev pub plan_for : SchemaTree → Versions → Result Plan EndReason
 plan_for s held = both_ways_only s (plan_answer s.sequences held)
 
--- all that a room's schema decides, beside what the schemas of clients do
-abbrev pub decided : {F : Type 0} → SchemaTree → (ℕ → ClientSchema F) → Schemas F
-decided s clients = record {
+-- all that a room's schema decides
+abbrev pub decided : SchemaTree → Schemas
+decided s = record {
   is_document = is_document s;
   is_presence = is_presence s;
   admits = is_admitted s;
@@ -50,9 +50,4 @@ decided s clients = record {
   plan_for = plan_for s;
   raise = raise s;
   lower = lower s;
-  client = clients;
 }
-
--- the same where there is no client
-abbrev pub alone : SchemaTree → Schemas (Unit {0})
-alone s = decided s (λ version. record { admits = λ id d. false; complete = λ document wanted. Ok wanted; presence_fault = λ d. None; versions = [] })
