@@ -12,12 +12,12 @@ use Rattle.doc_model.proofs.MergeLemmas.{at-fold_raw}
 use Rattle.schema_core.specs.Admits.{is_admitted}
 use Rattle.schema_core.specs.Tree.{SchemaTree}
 use Rattle.room_model.specs.Accepting.{is_put_admitted}
-use Rattle.room_schemas.specs.Decided.{alone}
+use Rattle.room_schemas.specs.Decided.{decided}
 use Rattle.room_accept.specs.Parts.{IsStanding}
 use Rattle.room_accept.specs.Suiting.{AreAdmitted}
 
 -- what is left by an operation that is accepted is admitted
-pub left_standing : (s : SchemaTree) (id : List ℕ) (c : RecordOpTree) (r : Option Data) → acts_on (is_admitted s) id c r ≡ true → is_put_admitted (alone s) id c ≡ true → IsStanding s id (raw c r)
+pub left_standing : (s : SchemaTree) (id : List ℕ) (c : RecordOpTree) (r : Option Data) → acts_on (is_admitted s) id c r ≡ true → is_put_admitted (decided s) id c ≡ true → IsStanding s id (raw c r)
 left_standing s id (put d) r acts puts = puts
 left_standing s id (patch p) None acts puts = tt
 left_standing s id (patch p) (Some d) acts puts = acts
@@ -46,8 +46,8 @@ admitted-beside s m part id c rising admitted stands q d is =
     (λ found. admitted q d (at-fold_raw part m q rising ∙ found))
     (sym (at-fold_raw (with_key part id c) m q (rising-with_key part id c rising) ∙ ap (λ e. raw_after e (value_at m q)) (at-with_key part id q c)) ∙ is)
 
-pub own_standing : (s : SchemaTree) (id : List ℕ) (own : Option RecordOpTree) (c : RecordOpTree) → own ≡ Some c → option_map_or (λ e. is_put_admitted (alone s) id e) own true ≡ true → is_put_admitted (alone s) id c ≡ true
-own_standing s id own c is puts = subst (λ o. option_map_or (λ e. is_put_admitted (alone s) id e) o true ≡ true) is puts
+pub own_standing : (s : SchemaTree) (id : List ℕ) (own : Option RecordOpTree) (c : RecordOpTree) → own ≡ Some c → option_map_or (λ e. is_put_admitted (decided s) id e) own true ≡ true → is_put_admitted (decided s) id c ≡ true
+own_standing s id own c is puts = subst (λ o. option_map_or (λ e. is_put_admitted (decided s) id e) o true ≡ true) is puts
 
 pub some_is : {X : Type 0} (x y : X) → ◌≡◌ {A = Option X} (Some x) (Some y) → x ≡ y
 some_is x y is = (cc)

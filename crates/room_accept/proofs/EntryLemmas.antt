@@ -9,56 +9,48 @@ use Rattle.schema_core.specs.Admits.{is_document}
 use Rattle.schema_core.specs.Tree.{SchemaTree}
 use Rattle.sync_msgs.specs.declared.data_event.Action.{Action}
 use Rattle.room_model.specs.Accepting.{Push, is_fit, is_put_admitted, own_presence, is_taken, tried_op, is_accepted, accept_ops, document_part, presence_part, action_of, entry_of}
-use Rattle.room_model.specs.Schemas.{Plan, Member, ClientSchema, presence_id}
+use Rattle.room_model.specs.Schemas.{Plan, Member, presence_id}
 use Rattle.room_model.specs.declared.history.Entry.{Entry}
 use Rattle.room_model.proofs.ActingLemmas.{all-accepted}
-use Rattle.room_schemas.specs.Decided.{decided, alone}
+use Rattle.room_schemas.specs.Decided.{decided}
 use Rattle.room_accept.specs.Parts.{are_documents, own_part}
-
--- what is accepted is the same whatever clients there are
-same_ops : {F : Type 0} (s : SchemaTree) (clients : ℕ → ClientSchema F) (plan : Plan) (m : Pairs) (diff : RecordOps) → accept_ops (decided s clients) plan m diff ≡ accept_ops (alone s) plan m diff
-same_ops s clients plan m [] = refl
-same_ops s clients plan m (c ∷ diff) =
-    let op = tried_op (alone s) plan c.1 (value_at m c.0) in
-    λ i. cond (is_accepted (alone s) m c.0 op) ((c.0, op) ∷ same_ops s clients plan (set_at m c.0 (raw op (value_at m c.0))) diff i) (same_ops s clients plan m diff i)
 
 module _ (s : SchemaTree) (member : Member) where
   -- an operation that puts fits under the presence's id as its own does
-  own_fits : (o : Option RecordOpTree) → option_map_or (λ c. is_put_admitted (alone s) (presence_id member.session) c) (option_map (own_presence (alone s) member) o) true
-      ≡ option_map_or (λ c. is_put_admitted (alone s) (presence_id member.session) (own_presence (alone s) member c)) o true
+  own_fits : (o : Option RecordOpTree) → option_map_or (λ c. is_put_admitted (decided s) (presence_id member.session) c) (option_map (own_presence (decided s) member) o) true
+      ≡ option_map_or (λ c. is_put_admitted (decided s) (presence_id member.session) (own_presence (decided s) member c)) o true
   own_fits None = refl
   own_fits (Some c) = refl
 
   -- whether a push is taken, by what happens to the presence under its own id
-  pub taken_is : (push : Push) (id : List ℕ) (own : Option RecordOpTree) → id ≡ presence_id member.session → own ≡ option_map (own_presence (alone s) member) push.presence
-      → (member.readonly || is_fit (alone s) member.plan push.diff) && option_map_or (λ c. is_put_admitted (alone s) id c) own true ≡ is_taken (alone s) member push
+  pub taken_is : (push : Push) (id : List ℕ) (own : Option RecordOpTree) → id ≡ presence_id member.session → own ≡ option_map (own_presence (decided s) member) push.presence
+      → (member.readonly || is_fit (decided s) member.plan push.diff) && option_map_or (λ c. is_put_admitted (decided s) id c) own true ≡ is_taken (decided s) member push
   taken_is push id own id-is own-is =
-      (λ i. (member.readonly || is_fit (alone s) member.plan push.diff) && option_map_or (λ c. is_put_admitted (alone s) (id-is i) c) (own-is i) true)
-      ∙ ap (λ b. (member.readonly || is_fit (alone s) member.plan push.diff) && b) (own_fits push.presence)
+      (λ i. (member.readonly || is_fit (decided s) member.plan push.diff) && option_map_or (λ c. is_put_admitted (decided s) (id-is i) c) (own-is i) true)
+      ∙ ap (λ b. (member.readonly || is_fit (decided s) member.plan push.diff) && b) (own_fits push.presence)
 
   -- the ids that are accepted are the document's
-  pub part_documents : (m : Pairs) (diff : RecordOps) → (member.readonly ≡ false → are_documents s diff ≡ true) → are_documents s (document_part (alone s) member m diff) ≡ true
-  part_documents m diff documents = elim member.readonly as (λ b. member.readonly ≡ b → are_documents s (cond b [] (accept_ops (alone s) member.plan m diff)) ≡ true) [
+  pub part_documents : (m : Pairs) (diff : RecordOps) → (member.readonly ≡ false → are_documents s diff ≡ true) → are_documents s (document_part (decided s) member m diff) ≡ true
+  part_documents m diff documents = elim member.readonly as (λ b. member.readonly ≡ b → are_documents s (cond b [] (accept_ops (decided s) member.plan m diff)) ≡ true) [
     | true ↦ λ is. refl
-    | false ↦ λ is. all-accepted (alone s) member.plan (is_document s) m diff (documents is)
+    | false ↦ λ is. all-accepted (decided s) member.plan (is_document s) m diff (documents is)
   ] refl
 
-  module _ {F : Type 0} (clients : ℕ → ClientSchema F) (m : Pairs) where
-    own_is : (c : RecordOpTree) → own_part s m (presence_id member.session) (own_presence (alone s) member c) ≡ presence_part (decided s clients) member m c
+  module _ (m : Pairs) where
+    own_is : (c : RecordOpTree) → own_part s m (presence_id member.session) (own_presence (decided s) member c) ≡ presence_part (decided s) member m c
     own_is (put d) = refl
     own_is (patch p) = refl
     own_is remove = refl
 
-    maybe_own_is : (o : Option RecordOpTree) → option_and_then (own_part s m (presence_id member.session)) (option_map (own_presence (alone s) member) o) ≡ option_and_then (presence_part (decided s clients) member m) o
+    maybe_own_is : (o : Option RecordOpTree) → option_and_then (own_part s m (presence_id member.session)) (option_map (own_presence (decided s) member) o) ≡ option_and_then (presence_part (decided s) member m) o
     maybe_own_is None = refl
     maybe_own_is (Some c) = own_is c
 
     -- the entry of a push
-    pub entry_is : (push : Push) (id : List ℕ) (own : Option RecordOpTree) (part diff : RecordOps) (action : Action) → id ≡ presence_id member.session → own ≡ option_map (own_presence (alone s) member) push.presence
-        → part ≡ document_part (alone s) member m push.diff → diff ≡ added part id (option_and_then (own_part s m id) own) → action ≡ action_of member.plan push.diff part
-        → ◌≡◌ {A = Entry} (record { diff = diff; author = Some (record { session = member.session; client_clock = push.client_clock; action = action }) }) (entry_of (decided s clients) member m push)
+    pub entry_is : (push : Push) (id : List ℕ) (own : Option RecordOpTree) (part diff : RecordOps) (action : Action) → id ≡ presence_id member.session → own ≡ option_map (own_presence (decided s) member) push.presence
+        → part ≡ document_part (decided s) member m push.diff → diff ≡ added part id (option_and_then (own_part s m id) own) → action ≡ action_of member.plan push.diff part
+        → ◌≡◌ {A = Entry} (record { diff = diff; author = Some (record { session = member.session; client_clock = push.client_clock; action = action }) }) (entry_of (decided s) member m push)
     entry_is push id own part diff action id-is own-is part-is diff-is action-is =
-        let whole : part ≡ document_part (decided s clients) member m push.diff = part-is ∙ sym (ap (λ l. cond member.readonly [] l) (same_ops s clients member.plan m push.diff)) in
-        let all = diff-is ∙ (λ i. added (whole i) (id-is i) (option_and_then (own_part s m (id-is i)) (own-is i))) ∙ ap (added (document_part (decided s clients) member m push.diff) (presence_id member.session)) (maybe_own_is push.presence) in
-        let acts = action-is ∙ ap (action_of member.plan push.diff) whole in
+        let all = diff-is ∙ (λ i. added (part-is i) (id-is i) (option_and_then (own_part s m (id-is i)) (own-is i))) ∙ ap (added (document_part (decided s) member m push.diff) (presence_id member.session)) (maybe_own_is push.presence) in
+        let acts = action-is ∙ ap (action_of member.plan push.diff) part-is in
         λ i. record { diff = all i; author = Some (record { session = member.session; client_clock = push.client_clock; action = acts i }) }

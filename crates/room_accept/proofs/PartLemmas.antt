@@ -19,7 +19,7 @@ use Rattle.room_model.specs.Accepting.{is_accepted, is_fit, is_put_admitted, tri
 use Rattle.room_model.specs.Schemas.{Plan}
 use Rattle.room_model.proofs.ActingLemmas.{both, left, right}
 use Rattle.room_model.proofs.LookUpLemmas.{unnamed}
-use Rattle.room_schemas.specs.Decided.{alone}
+use Rattle.room_schemas.specs.Decided.{decided}
 use Rattle.room_accept.specs.Parts.{IsPart, are_documents, is_taken_in, with_tried}
 use Rattle.room_accept.specs.Sizes.{size_of, size_after, is_within}
 use Rattle.room_accept.specs.Suiting.{AreAdmitted, each_changes, left_under}
@@ -94,7 +94,7 @@ acted admits id c r after is =
       | false ↦ λ left. absurd (cc)
     ] is
 
-pub fit_documents : (s : SchemaTree) (plan : Plan) (diff : RecordOps) → is_fit (alone s) plan diff ≡ true → are_documents s diff ≡ true
+pub fit_documents : (s : SchemaTree) (plan : Plan) (diff : RecordOps) → is_fit (decided s) plan diff ≡ true → are_documents s diff ≡ true
 fit_documents s plan [] fit = refl
 fit_documents s plan (c ∷ diff) fit = both _ _ (left _ _ (left _ _ fit)) (fit_documents s plan diff (right _ _ fit))
 
@@ -114,23 +114,23 @@ module _ (s : SchemaTree) (m : Pairs) (m-rises : AreRising m) (part : RecordOps)
       ∙ (λ i. size_after (sym is i) (here i) (raw c (value_at m id)))
 
   -- so an operation is accepted as the size and the record of the beginning tell
-  pub accepted_is : (c : RecordOpTree) → is_accepted (alone s) (fold_raw m part) id c ≡ is_taken_in s size id c (value_at m id)
+  pub accepted_is : (c : RecordOpTree) → is_accepted (decided s) (fold_raw m part) id c ≡ is_taken_in s size id c (value_at m id)
   accepted_is c =
-      (λ i. acts_on (is_admitted s) id c (here i) && is_put_admitted (alone s) id c && is_within (size_of (is_document s) (set_at (fold_raw m part) id (raw c (here i)))))
-      ∙ ap (λ n. acts_on (is_admitted s) id c (value_at m id) && is_put_admitted (alone s) id c && is_within n) (ap (size_of (is_document s)) (sym (pushed c)) ∙ size_pushed c)
+      (λ i. acts_on (is_admitted s) id c (here i) && is_put_admitted (decided s) id c && is_within (size_of (is_document s) (set_at (fold_raw m part) id (raw c (here i)))))
+      ∙ ap (λ n. acts_on (is_admitted s) id c (value_at m id) && is_put_admitted (decided s) id c && is_within n) (ap (size_of (is_document s)) (sym (pushed c)) ∙ size_pushed c)
 
   -- what is accepted of what is left goes on after the operation that was tried
-  pub going_on : (plan : Plan) (c : RecordOpTree) (rest : RecordOps) → let op = tried_op (alone s) plan c (value_at m id) in
-      part ++ accept_ops (alone s) plan (fold_raw m part) ((id, c) ∷ rest) ≡ with_tried s size part id op (value_at m id) ++ accept_ops (alone s) plan (fold_raw m (with_tried s size part id op (value_at m id))) rest
+  pub going_on : (plan : Plan) (c : RecordOpTree) (rest : RecordOps) → let op = tried_op (decided s) plan c (value_at m id) in
+      part ++ accept_ops (decided s) plan (fold_raw m part) ((id, c) ∷ rest) ≡ with_tried s size part id op (value_at m id) ++ accept_ops (decided s) plan (fold_raw m (with_tried s size part id op (value_at m id))) rest
   going_on plan c rest =
       let r = value_at m id in
-      let op = tried_op (alone s) plan c r in
+      let op = tried_op (decided s) plan c r in
       let now = fold_raw m part in
-      (λ i. let o = tried_op (alone s) plan c (here i) in part ++ cond (is_accepted (alone s) now id o) ((id, o) ∷ accept_ops (alone s) plan (set_at now id (raw o (here i))) rest) (accept_ops (alone s) plan now rest))
-      ∙ ap (λ b. part ++ cond b ((id, op) ∷ accept_ops (alone s) plan (set_at now id (raw op r)) rest) (accept_ops (alone s) plan now rest)) (accepted_is op)
-      ∙ elim (is_taken_in s size id op r) as (λ b. part ++ cond b ((id, op) ∷ accept_ops (alone s) plan (set_at now id (raw op r)) rest) (accept_ops (alone s) plan now rest) ≡ cond b (part ++ (id, op) ∷ []) part ++ accept_ops (alone s) plan (fold_raw m (cond b (part ++ (id, op) ∷ []) part)) rest) [
-        | true ↦ sym (append_assoc part ((id, op) ∷ []) (accept_ops (alone s) plan (set_at now id (raw op r)) rest))
-            ∙ ap (λ n. (part ++ (id, op) ∷ []) ++ accept_ops (alone s) plan n rest) (sym (pushed op))
+      (λ i. let o = tried_op (decided s) plan c (here i) in part ++ cond (is_accepted (decided s) now id o) ((id, o) ∷ accept_ops (decided s) plan (set_at now id (raw o (here i))) rest) (accept_ops (decided s) plan now rest))
+      ∙ ap (λ b. part ++ cond b ((id, op) ∷ accept_ops (decided s) plan (set_at now id (raw op r)) rest) (accept_ops (decided s) plan now rest)) (accepted_is op)
+      ∙ elim (is_taken_in s size id op r) as (λ b. part ++ cond b ((id, op) ∷ accept_ops (decided s) plan (set_at now id (raw op r)) rest) (accept_ops (decided s) plan now rest) ≡ cond b (part ++ (id, op) ∷ []) part ++ accept_ops (decided s) plan (fold_raw m (cond b (part ++ (id, op) ∷ []) part)) rest) [
+        | true ↦ sym (append_assoc part ((id, op) ∷ []) (accept_ops (decided s) plan (set_at now id (raw op r)) rest))
+            ∙ ap (λ n. (part ++ (id, op) ∷ []) ++ accept_ops (decided s) plan n rest) (sym (pushed op))
         | false ↦ refl
       ]
 

@@ -26,7 +26,7 @@ use Rattle.room_model.specs.Schemas.{records_with}
 use Rattle.room_model.proofs.ActingLemmas.{all-with_key, left, right, differ}
 use Rattle.room_model.proofs.LookUpLemmas.{none_at, rising-mapped, rising-filter}
 use Rattle.room_model.specs.Accepting.{is_put_admitted}
-use Rattle.room_schemas.specs.Decided.{alone, is_presence, is_of_presence}
+use Rattle.room_schemas.specs.Decided.{decided, is_presence, is_of_presence}
 use Rattle.room_accept.specs.Parts.{IsPart, IsOwnLeft, are_documents, own_part}
 use Rattle.room_accept.specs.Sizes.{size_of}
 use Rattle.room_accept.specs.Suiting.{AreAdmitted, each_changes, left_under}
@@ -132,7 +132,7 @@ rising_after s m part is =
 
 -- what was accepted, and a presence beside it
 pub part_beside : (s : SchemaTree) (m : Pairs) (part all : Part) (id : List ℕ) (c : RecordOpTree) (left : Option Val) → AreRising m → IsPart s m part → is_presence s id ≡ true
-    → acts_on (is_admitted s) id c (value_at m id) ≡ true → is_put_admitted (alone s) id c ≡ true → maybe_data left ≡ raw c (value_at m id)
+    → acts_on (is_admitted s) id c (value_at m id) ≡ true → is_put_admitted (decided s) id c ≡ true → maybe_data left ≡ raw c (value_at m id)
     → all.diff ≡ with_key part.diff id c → all.after.items ≡ with_key part.after.items id left → all.size ≡ part.size
     → IsPart s m all
 part_beside s m part all id c left-data m-rises was presence acts puts leaves diff after size = record {

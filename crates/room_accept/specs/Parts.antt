@@ -11,7 +11,7 @@ use Rattle.doc_model.specs.Documents.{fold_raw, acts_on}
 use Rattle.schema_core.specs.Admits.{is_admitted, is_document}
 use Rattle.schema_core.specs.Tree.{SchemaTree}
 use Rattle.room_model.specs.Accepting.{is_put_admitted}
-use Rattle.room_schemas.specs.Decided.{alone}
+use Rattle.room_schemas.specs.Decided.{decided}
 use Rattle.room_accept.specs.Sizes.{size_of, size_after, is_within}
 use Rattle.room_accept.specs.Suiting.{AreAdmitted, each_changes, left_under}
 use Rattle.room_accept.specs.declared.part.Part.{Part}
@@ -32,7 +32,7 @@ are_documents s diff = list_all (λ c. is_document s c.0) diff
 
 -- an operation is accepted on what stands under its id, in a document of this size
 abbrev pub is_taken_in : SchemaTree → DocumentSize → List ℕ → RecordOpTree → Option Data → Bool
-is_taken_in s size id c r = acts_on (is_admitted s) id c r && is_put_admitted (alone s) id c && is_within (size_after size r (raw c r))
+is_taken_in s size id c r = acts_on (is_admitted s) id c r && is_put_admitted (decided s) id c && is_within (size_after size r (raw c r))
 
 -- what was accepted, and then an operation that is tried, if it is accepted
 abbrev pub with_tried : SchemaTree → DocumentSize → RecordOps → List ℕ → RecordOpTree → Option Data → RecordOps

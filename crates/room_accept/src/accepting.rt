@@ -2,7 +2,6 @@
 ghost use Rattle.std.specs.Prelude.{◌≡◌, ℕ, IfOk, IfSome, is_some};
 ghost use Rattle.schema_core.specs.Admits.{is_document};
 ghost use Rattle.schema_core.specs.SchemaOf.{schema_tree};
-ghost use Rattle.room_model.specs.Schemas.{ClientSchema};
 ghost use Rattle.room_model.specs.Accepting.{is_taken, entry_of};
 ghost use Rattle.room_schemas.specs.Decided.{decided};
 ghost use Rattle.room_accept.specs.Pushes.{member_of, push_of};
@@ -25,8 +24,8 @@ use std::alloc::Global;
 /// What is accepted of a push of a session, in a room that has these records. `None` exactly where
 /// the push is refused. Nothing changes. It costs what the diff names, and a logarithm of the
 /// records for each id; no map is copied. A patched record is checked at the keys that its patch
-/// names, since each record is one that the schema admits. `F` is the fault of an edit, which contracts alone name.
-pub fn accept<F: Drop>(
+/// names, since each record is one that the schema admits.
+pub fn accept(
     alloc: Global,
     schema: &Schema,
     records: &MapDoc,
@@ -37,10 +36,12 @@ pub fn accept<F: Drop>(
     requires size { size ≡ size_of (is_document (schema_tree schema.now)) records.now.0 }
     requires presence { HasPresences (schema_tree schema.now) }
     requires admitted { AreAdmitted (schema_tree schema.now) records.now.0 }
-    ensures taken { IfOk result (λ accepted. (clients : ℕ → ClientSchema F)
-        → is_some accepted ≡ is_taken (decided (schema_tree schema.now) clients) (member_of member.entry) (push_of push.entry)) }
-    ensures entry { IfOk result (λ accepted. IfSome accepted (λ a. (clients : ℕ → ClientSchema F)
-        → a.entry ≡ entry_of (decided (schema_tree schema.now) clients) (member_of member.entry) records.now.0 (push_of push.entry))) }
+    ensures taken { IfOk result (λ accepted. is_some accepted
+        ≡ is_taken (decided (schema_tree schema.now)) (member_of member.entry)
+        (push_of push.entry)) }
+    ensures entry { IfOk result (λ accepted. IfSome accepted (λ a. a.entry
+        ≡ entry_of (decided (schema_tree schema.now)) (member_of member.entry) records.now.0
+        (push_of push.entry))) }
     ensures suits { IfOk result (λ accepted. IfSome accepted (Suits (schema_tree schema.now) records.now.0)) }
 {
     let id = presence_id(alloc, member.session)?;

@@ -4,7 +4,7 @@ ghost use Rattle.std.specs.Option.{option_map_or};
 ghost use Rattle.field_ops.specs.ViewRecordOps.{change_of, maybe_change};
 ghost use Rattle.schema_core.specs.SchemaOf.{schema_tree};
 ghost use Rattle.room_model.specs.Accepting.{on_put, is_put_admitted, is_fit, pushed_diff};
-ghost use Rattle.room_schemas.specs.Decided.{alone, raise};
+ghost use Rattle.room_schemas.specs.Decided.{decided, raise};
 ghost use Rattle.room_accept.specs.Plans.{plan_of};
 
 use crate::plan::SessionPlan;
@@ -24,8 +24,12 @@ pub(crate) fn is_taken(
     id: &Text,
     own: &Option<RecordOp>,
 ) -> Mem<bool>
-    ensures { IfOk result (λ taken. taken ≡ ((member.entry.readonly || is_fit (alone (schema_tree schema.now)) (plan_of member.entry.plan.now) (pushed_diff pushed.now))
-        && option_map_or (λ c. is_put_admitted (alone (schema_tree schema.now)) id.now c) (maybe_change own.now) true)) }
+    ensures { IfOk result (λ taken. taken
+        ≡ ((member.entry.readonly
+        || is_fit (decided (schema_tree schema.now)) (plan_of member.entry.plan.now)
+        (pushed_diff pushed.now))
+        && option_map_or (λ c. is_put_admitted (decided (schema_tree schema.now)) id.now c)
+        (maybe_change own.now) true)) }
 {
     if !member.readonly && !is_pushed_fit(alloc, schema, member.plan, pushed)? {
         return Ok(false);
@@ -43,7 +47,8 @@ fn is_pushed_fit(
     plan: &SessionPlan,
     pushed: &Option<Diff>,
 ) -> Mem<bool>
-    ensures { IfOk result (λ fit. fit ≡ is_fit (alone (schema_tree schema.now)) (plan_of plan.now) (pushed_diff pushed.now)) }
+    ensures { IfOk result (λ fit. fit
+        ≡ is_fit (decided (schema_tree schema.now)) (plan_of plan.now) (pushed_diff pushed.now)) }
 {
     match pushed {
         Some(diff) => is_fit(alloc, schema, plan, diff),
@@ -54,7 +59,8 @@ fn is_pushed_fit(
 // Whether each operation names an id of the document, and what it puts is admitted once it is taken
 // up.
 fn is_fit(alloc: Global, schema: &Schema, plan: &SessionPlan, diff: &Diff) -> Mem<bool>
-    ensures { IfOk result (λ fit. fit ≡ is_fit (alone (schema_tree schema.now)) (plan_of plan.now) diff.now) }
+    ensures { IfOk result (λ fit. fit
+        ≡ is_fit (decided (schema_tree schema.now)) (plan_of plan.now) diff.now) }
 {
     'ids: for (id, op) in diff.as_slice() {
         if !schema.is_document(id.as_str()) {
@@ -75,7 +81,9 @@ fn is_put_fit(
     id: &Text,
     op: &RecordOp,
 ) -> Mem<bool>
-    ensures { IfOk result (λ fit. fit ≡ is_put_admitted (alone (schema_tree schema.now)) id.now (on_put (raise (schema_tree schema.now) (plan_of plan.now)) (change_of op.now))) }
+    ensures { IfOk result (λ fit. fit
+        ≡ is_put_admitted (decided (schema_tree schema.now)) id.now
+        (on_put (raise (schema_tree schema.now) (plan_of plan.now)) (change_of op.now))) }
 {
     match op {
         RecordOp::Put(val) => {
@@ -89,7 +97,8 @@ fn is_put_fit(
 
 // Whether what an operation puts is admitted under the id.
 pub(crate) fn is_put_admitted(schema: &Schema, id: &str, op: &RecordOp) -> bool
-    ensures { result ≡ is_put_admitted (alone (schema_tree schema.now)) id.now (change_of op.now) }
+    ensures { result
+        ≡ is_put_admitted (decided (schema_tree schema.now)) id.now (change_of op.now) }
 {
     match op {
         RecordOp::Put(val) => schema.admits(id, val).is_ok(),

@@ -8,7 +8,7 @@ ghost use Rattle.field_ops.specs.ViewRecordOps.{change_of};
 ghost use Rattle.schema_core.specs.Admits.{is_document};
 ghost use Rattle.schema_core.specs.SchemaOf.{schema_tree};
 ghost use Rattle.room_model.specs.Accepting.{pushed_diff, tried_op, accept_ops, document_part};
-ghost use Rattle.room_schemas.specs.Decided.{alone};
+ghost use Rattle.room_schemas.specs.Decided.{decided};
 ghost use Rattle.room_accept.specs.Parts.{IsPart, IsStanding, are_documents, is_taken_in, with_tried};
 ghost use Rattle.room_accept.specs.Plans.{plan_of};
 ghost use Rattle.room_accept.specs.Pushes.{member_of};
@@ -50,7 +50,9 @@ pub(crate) fn document_part(
     requires size { size ≡ size_of (is_document (schema_tree schema.now)) records.now.0 }
     requires admitted { AreAdmitted (schema_tree schema.now) records.now.0 }
     requires documents { member.readonly ≡ false → are_documents (schema_tree schema.now) (pushed_diff pushed.now) ≡ true }
-    ensures diff { IfOk result (λ part. part.diff ≡ document_part (alone (schema_tree schema.now)) (member_of member.entry) records.now.0 (pushed_diff pushed.now)) }
+    ensures diff { IfOk result (λ part. part.diff
+        ≡ document_part (decided (schema_tree schema.now)) (member_of member.entry) records.now.0
+        (pushed_diff pushed.now)) }
     ensures part { IfOk result (IsPart (schema_tree schema.now) records.now.0) }
 {
     if !member.readonly {
@@ -77,7 +79,8 @@ fn accept_each(
     requires size { size ≡ size_of (is_document (schema_tree schema.now)) records.now.0 }
     requires admitted { AreAdmitted (schema_tree schema.now) records.now.0 }
     requires documents { are_documents (schema_tree schema.now) diff.now ≡ true }
-    ensures diff { IfOk result (λ part. part.diff ≡ accept_ops (alone (schema_tree schema.now)) (plan_of plan.now) records.now.0 diff.now) }
+    ensures diff { IfOk result (λ part. part.diff
+        ≡ accept_ops (decided (schema_tree schema.now)) (plan_of plan.now) records.now.0 diff.now) }
     ensures part { IfOk result (IsPart (schema_tree schema.now) records.now.0) }
 {
     let mut part = Part {
@@ -106,7 +109,8 @@ fn accept_one(
     requires document { is_document (schema_tree schema.now) id.now ≡ true }
     requires later { AreRising (part.diff ++ (id.now, change_of op.now) ∷ []) }
     ensures diff { IfOk result (λ next. let r = value_at records.now.0 id.now in
-        next.diff ≡ with_tried (schema_tree schema.now) part.size part.diff id.now (tried_op (alone (schema_tree schema.now)) (plan_of plan.now) (change_of op.now) r) r) }
+        next.diff ≡ with_tried (schema_tree schema.now) part.size part.diff id.now
+        (tried_op (decided (schema_tree schema.now)) (plan_of plan.now) (change_of op.now) r) r) }
     ensures part { IfOk result (IsPart (schema_tree schema.now) records.now.0) }
     ensures sound { IfOk result (λ _. AreRising records.now.0) }
 {

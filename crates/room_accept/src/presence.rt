@@ -8,7 +8,7 @@ ghost use Rattle.schema_core.specs.SchemaOf.{schema_tree};
 ghost use Rattle.doc_model.specs.Documents.{fold_raw};
 ghost use Rattle.room_model.specs.Accepting.{is_put_admitted, with_id, own_presence};
 ghost use Rattle.room_model.specs.Schemas.{presence_id, records_with};
-ghost use Rattle.room_schemas.specs.Decided.{alone, is_presence};
+ghost use Rattle.room_schemas.specs.Decided.{decided, is_presence};
 ghost use Rattle.room_accept.specs.Parts.{IsPart, IsOwnLeft, are_documents, own_part};
 ghost use Rattle.room_accept.specs.Pushes.{member_of};
 ghost use Rattle.room_accept.specs.Suiting.{AreAdmitted, HasPresences};
@@ -40,7 +40,9 @@ pub(crate) fn own_presence(
     pushed: &Option<RecordOp>,
 ) -> Mem<Option<RecordOp>>
     requires { id.now ≡ presence_id member.session }
-    ensures { IfOk result (λ own. maybe_change own ≡ option_map (own_presence (alone (schema_tree schema.now)) (member_of member.entry)) (maybe_change pushed.now)) }
+    ensures { IfOk result (λ own. maybe_change own
+        ≡ option_map (own_presence (decided (schema_tree schema.now)) (member_of member.entry))
+        (maybe_change pushed.now)) }
 {
     match pushed {
         Some(op) => Ok(Some(own_op(alloc, schema, member, id, op)?)),
@@ -57,7 +59,9 @@ fn own_op(
     op: &RecordOp,
 ) -> Mem<RecordOp>
     requires { id.now ≡ presence_id member.session }
-    ensures { IfOk result (λ own. change_of own ≡ own_presence (alone (schema_tree schema.now)) (member_of member.entry) (change_of op.now)) }
+    ensures { IfOk result (λ own. change_of own
+        ≡ own_presence (decided (schema_tree schema.now)) (member_of member.entry)
+        (change_of op.now)) }
 {
     match op {
         RecordOp::Put(val) => {
@@ -95,7 +99,8 @@ pub(crate) fn with_presence(
     requires documents { are_documents (schema_tree schema.now) part.diff ≡ true }
     requires presence { is_presence (schema_tree schema.now) id ≡ true }
     requires admitted { AreAdmitted (schema_tree schema.now) records.now.0 }
-    requires own { option_map_or (λ c. is_put_admitted (alone (schema_tree schema.now)) id c) (maybe_change own) true ≡ true }
+    requires own { option_map_or (λ c. is_put_admitted (decided (schema_tree schema.now)) id c)
+        (maybe_change own) true ≡ true }
     ensures diff { IfOk result (λ all. all.diff ≡ added part.diff id (option_and_then (own_part (schema_tree schema.now) records.now.0 id) (maybe_change own))) }
     ensures part { IfOk result (IsPart (schema_tree schema.now) records.now.0) }
     ensures presences { IfOk result (λ all. length (records_with (is_presence (schema_tree schema.now)) (fold_raw records.now.0 all.diff)) ≤ length (records_with (is_presence (schema_tree schema.now)) records.now.0) + 1) }

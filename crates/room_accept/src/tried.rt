@@ -6,7 +6,7 @@ ghost use Rattle.field_ops.specs.View.{maybe_data};
 ghost use Rattle.field_ops.specs.ViewRecordOps.{change_of};
 ghost use Rattle.schema_core.specs.SchemaOf.{schema_tree};
 ghost use Rattle.room_model.specs.Accepting.{on_put, as_put, raise_op, tried_op};
-ghost use Rattle.room_schemas.specs.Decided.{alone, raise, lower};
+ghost use Rattle.room_schemas.specs.Decided.{decided, raise, lower};
 ghost use Rattle.room_accept.specs.Plans.{plan_of};
 
 use crate::plan::SessionPlan;
@@ -24,7 +24,9 @@ pub(crate) fn tried(
     op: &RecordOp,
     before: Option<&Val>,
 ) -> Mem<RecordOp>
-    ensures { IfOk result (λ o. change_of o ≡ tried_op (alone (schema_tree schema.now)) (plan_of plan.now) (change_of op.now) (maybe_data (option_copied before.entry))) }
+    ensures { IfOk result (λ o. change_of o
+        ≡ tried_op (decided (schema_tree schema.now)) (plan_of plan.now) (change_of op.now)
+        (maybe_data (option_copied before.entry))) }
 {
     if plan.is_empty() {
         return op.copy(alloc);

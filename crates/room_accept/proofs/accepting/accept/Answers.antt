@@ -5,7 +5,7 @@ use Rattle.field_ops.specs.ViewRecordOps.{maybe_change}
 use Rattle.schema_core.specs.SchemaOf.{schema_tree}
 use Rattle.room_model.specs.Accepting.{is_fit}
 use Rattle.room_model.proofs.ActingLemmas.{left, right}
-use Rattle.room_schemas.specs.Decided.{alone, is_presence}
+use Rattle.room_schemas.specs.Decided.{decided, is_presence}
 use Rattle.room_accept.specs.Parts.{are_documents}
 use Rattle.room_accept.specs.Pushes.{member_of, push_of}
 use Rattle.room_accept.proofs.EntryLemmas.{taken_is, part_documents, entry_is}
@@ -13,12 +13,12 @@ use Rattle.room_accept.proofs.PartLemmas.{fit_documents}
 use Rattle.room_accept.proofs.accepting.accept.Goals as goal
 
 pub returns-then-not-branch-clause-taken : goal.returns-then-not-branch-clause-taken
-returns-then-not-branch-clause-taken g c clients =
+returns-then-not-branch-clause-taken c =
     sym c.if-not-branch.true ∙ c.in_ok-is_taken.ensures
     ∙ taken_is (schema_tree c.args.schema.now) (member_of c.args.member) (push_of c.args.push) c.in_ok-id.id (maybe_change c.in_ok-own.own) c.in_ok-id.ensures c.in_ok-own.ensures
 
 pub returns-clause-taken : goal.returns-clause-taken
-returns-clause-taken g c clients =
+returns-clause-taken c =
     sym c.if-not-branch.false ∙ c.in_ok-is_taken.ensures
     ∙ taken_is (schema_tree c.args.schema.now) (member_of c.args.member) (push_of c.args.push) c.in_ok-id.id (maybe_change c.in_ok-own.own) c.in_ok-id.ensures c.in_ok-own.ensures
 
@@ -27,30 +27,30 @@ is_fit_of true fits is not = absurd (cc)
 is_fit_of false fits is not = is
 
 pub document_part-requires-clause-documents : goal.document_part-requires-clause-documents
-document_part-requires-clause-documents g c not =
+document_part-requires-clause-documents c not =
     let s = schema_tree c.args.schema.now in
     let push = push_of c.args.push in
     let member = member_of c.args.member in
-    fit_documents s member.plan push.diff (is_fit_of member.readonly (is_fit (alone s) member.plan push.diff) (left _ _ (sym c.in_ok-is_taken.ensures ∙ c.if-not-branch.false)) not)
+    fit_documents s member.plan push.diff (is_fit_of member.readonly (is_fit (decided s) member.plan push.diff) (left _ _ (sym c.in_ok-is_taken.ensures ∙ c.if-not-branch.false)) not)
 
 pub with_presence-requires-clause-documents : goal.with_presence-requires-clause-documents
-with_presence-requires-clause-documents g c =
+with_presence-requires-clause-documents c =
     let s = schema_tree c.args.schema.now in
     let push = push_of c.args.push in
     let member = member_of c.args.member in
     ap (are_documents s) c.in_ok-part.ensures.diff
     ∙ part_documents s member c.args.records.now.0 push.diff (λ not.
-    fit_documents s member.plan push.diff (is_fit_of member.readonly (is_fit (alone s) member.plan push.diff) (left _ _ (sym c.in_ok-is_taken.ensures ∙ c.if-not-branch.false)) not))
+    fit_documents s member.plan push.diff (is_fit_of member.readonly (is_fit (decided s) member.plan push.diff) (left _ _ (sym c.in_ok-is_taken.ensures ∙ c.if-not-branch.false)) not))
 
 pub with_presence-requires-clause-presence : goal.with_presence-requires-clause-presence
-with_presence-requires-clause-presence g c = ap (is_presence (schema_tree c.args.schema.now)) c.in_ok-id.ensures ∙ c.requires.presence c.args.member.session
+with_presence-requires-clause-presence c = ap (is_presence (schema_tree c.args.schema.now)) c.in_ok-id.ensures ∙ c.requires.presence c.args.member.session
 
 pub returns-clause-entry : goal.returns-clause-entry
-returns-clause-entry g c clients =
+returns-clause-entry c =
     let back : to_z w64 (of_z w64 c.args.push.client_clock) ≡ c.args.push.client_clock = search (rules, to_z-of_z) in
     ap (λ z. record { diff = c.in_ok-diff.field-0.diff; author = Some (record { session = c.args.member.session; client_clock = z; action = c.in_ok-action.action }) }) back
-    ∙ entry_is (schema_tree c.args.schema.now) (member_of c.args.member) clients c.args.records.now.0 (push_of c.args.push) c.in_ok-id.id (maybe_change c.in_ok-own.own) c.in_ok-part.part.diff c.in_ok-diff.field-0.diff c.in_ok-action.action
+    ∙ entry_is (schema_tree c.args.schema.now) (member_of c.args.member) c.args.records.now.0 (push_of c.args.push) c.in_ok-id.id (maybe_change c.in_ok-own.own) c.in_ok-part.part.diff c.in_ok-diff.field-0.diff c.in_ok-action.action
     c.in_ok-id.ensures c.in_ok-own.ensures c.in_ok-part.ensures.diff c.in_ok-diff.ensures.diff c.in_ok-action.ensures
 
 pub with_presence-requires-clause-own : goal.with_presence-requires-clause-own
-with_presence-requires-clause-own g c = right _ _ (sym c.in_ok-is_taken.ensures ∙ c.if-not-branch.false)
+with_presence-requires-clause-own c = right _ _ (sym c.in_ok-is_taken.ensures ∙ c.if-not-branch.false)

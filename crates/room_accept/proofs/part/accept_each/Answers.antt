@@ -9,7 +9,7 @@ use Rattle.schema_core.specs.Admits.{is_document}
 use Rattle.schema_core.specs.SchemaOf.{schema_tree}
 use Rattle.room_model.specs.Accepting.{accept_ops, tried_op}
 use Rattle.room_model.proofs.ActingLemmas.{left, right}
-use Rattle.room_schemas.specs.Decided.{alone}
+use Rattle.room_schemas.specs.Decided.{decided}
 use Rattle.room_accept.specs.Parts.{are_documents, with_tried}
 use Rattle.room_accept.specs.Plans.{plan_of}
 use Rattle.room_accept.specs.Sizes.{size_of}
@@ -24,7 +24,7 @@ ids-init c =
     let all = changes_view c.as_slice-id-items.result.now in
     let plan = plan_of c.args.plan.now in
     record {
-      goes_on = ap (λ d. d ++ accept_ops (alone s) plan (fold_raw m d) all) c.new.ensures;
+      goes_on = ap (λ d. d ++ accept_ops (decided s) plan (fold_raw m d) all) c.new.ensures;
       part = record {
         after = ap (seen maybe_data) c.new-2.ensures.items ∙ ap (left_under m) (sym c.new.ensures);
         size = c.requires.size ∙ ap (λ d. size_of (is_document s) (fold_raw m d)) (sym c.new.ensures);
@@ -63,15 +63,15 @@ ids-preserved c =
     let x = c.ids-item.result in
     let more = changes_view (drop (c.ids.id-index + 1) items) in
     let r = value_at m x.0 in
-    let tries = tried_op (alone s) plan (change_of x.1) r in
+    let tries = tried_op (decided s) plan (change_of x.1) r in
     let parts : changes_view (drop c.ids.id-index items) ≡ (x.0, change_of x.1) ∷ more = ap changes_view (one_off items c.ids.id-index x c.ids-test.true c.ids-item.is) in
     let documents : are_documents s ((x.0, change_of x.1) ∷ more) ≡ true = ap (are_documents s) (sym parts) ∙ c.ids.invariant.documents in
     let rising : AreRising (part ++ (x.0, change_of x.1) ∷ more) = subst (λ l. AreRising (part ++ l)) parts c.ids.invariant.rising in
     let next : c.in_ok-part.part.diff ≡ with_tried s size part x.0 tries r = c.in_ok-part.ensures.diff in
     record {
-      goes_on = ap (λ d. d ++ accept_ops (alone s) plan (fold_raw m d) more) next
+      goes_on = ap (λ d. d ++ accept_ops (decided s) plan (fold_raw m d) more) next
           ∙ sym (going_on s m c.in_ok-part.ensures.sound part size c.ids.invariant.part.size x.0 (left _ _ documents) (none_before x.0 more part (change_of x.1) rising) plan (change_of x.1) more)
-          ∙ ap (λ l. part ++ accept_ops (alone s) plan (fold_raw m part) l) (sym parts) ∙ c.ids.invariant.goes_on;
+          ∙ ap (λ l. part ++ accept_ops (decided s) plan (fold_raw m part) l) (sym parts) ∙ c.ids.invariant.goes_on;
       part = c.in_ok-part.ensures.part;
       rising = subst (λ d. AreRising (d ++ more)) (sym next) (rising_tried s size part x.0 (change_of x.1) tries r more rising);
       documents = right _ _ documents;
@@ -85,7 +85,7 @@ returns-clause-diff c =
     let part = c.ids.part.diff in
     let items = c.as_slice-id-items.result.now in
     let none = drop_all c.ids.id-index items (omega arith) in
-    sym (append-nil part) ∙ ap (λ l. part ++ accept_ops (alone s) plan (fold_raw m part) (changes_view l)) (sym none) ∙ c.ids.invariant.goes_on ∙ ap (accept_ops (alone s) plan m) c.as_slice-id-items.ensures.pairs
+    sym (append-nil part) ∙ ap (λ l. part ++ accept_ops (decided s) plan (fold_raw m part) (changes_view l)) (sym none) ∙ c.ids.invariant.goes_on ∙ ap (accept_ops (decided s) plan m) c.as_slice-id-items.ensures.pairs
 
 pub returns-clause-part : goal.returns-clause-part
 returns-clause-part c = c.ids.invariant.part

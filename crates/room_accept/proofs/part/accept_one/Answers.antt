@@ -11,7 +11,7 @@ use Rattle.field_ops.specs.View.{maybe_data}
 use Rattle.field_ops.specs.ViewRecordOps.{change_of}
 use Rattle.schema_core.specs.SchemaOf.{schema_tree}
 use Rattle.room_model.specs.Accepting.{tried_op}
-use Rattle.room_schemas.specs.Decided.{alone}
+use Rattle.room_schemas.specs.Decided.{decided}
 use Rattle.room_accept.specs.Parts.{IsPart, IsStanding, is_taken_in, with_tried}
 use Rattle.room_accept.proofs.AdmittedLemmas.{standing_at}
 use Rattle.room_accept.specs.Plans.{plan_of}
@@ -47,13 +47,13 @@ returns-in-Some c =
       | None ↦ λ is. is ∙ ap (value_at m) c.as_str.ensures.bytes
       | Some v ↦ λ is. is ∙ ap (value_at m) c.as_str.ensures.bytes
     ] c.get-before.ensures.found in
-    let tries : op ≡ tried_op (alone s) (plan_of c.args.plan.now) (change_of c.args.op.now) (value_at m id) = c.in_ok-op.ensures ∙ ap (tried_op (alone s) (plan_of c.args.plan.now) (change_of c.args.op.now)) found in
+    let tries : op ≡ tried_op (decided s) (plan_of c.args.plan.now) (change_of c.args.op.now) (value_at m id) = c.in_ok-op.ensures ∙ ap (tried_op (decided s) (plan_of c.args.plan.now) (change_of c.args.op.now)) found in
     let key = c.as_str-2.result.now in
     let claim : List ℕ → Option Data → Option Val × DocumentSize → Type 0 = λ k v l. (is_taken_in s part.size k op v ≡ true) × (maybe_data l.0 ≡ raw op v) × (l.1 ≡ size_after part.size v (raw op v)) in
     let judged = subst (λ v. claim id v c.in-Some.left) found (subst (λ k. claim k r c.in-Some.left) c.as_str-2.ensures.bytes
     (subst (λ o. MatchOption o (is_taken_in s part.size key op r ≡ false) (claim key r)) c.in-Some.is c.in_ok-left.ensures)) in
     let later = rising-other part.diff id (change_of c.args.op.now) op [] c.requires.later in
-    let wanted = with_tried s part.size part.diff id (tried_op (alone s) (plan_of c.args.plan.now) (change_of c.args.op.now) (value_at m id)) (value_at m id) in
+    let wanted = with_tried s part.size part.diff id (tried_op (decided s) (plan_of c.args.plan.now) (change_of c.args.op.now) (value_at m id)) (value_at m id) in
     let pushed : part.diff ++ (id, op) ∷ [] ≡ wanted = sym (ap (λ b. cond b (part.diff ++ (id, op) ∷ []) part.diff) judged.0) ∙ ap (λ o. with_tried s part.size part.diff id o (value_at m id)) tries in
     elim c.added.result as (λ x. IfOk x (λ n. n.diff ≡ part.diff ++ (id, op) ∷ []) → IfOk x (λ n. n.after.items ≡ part.after.items ++ (id, c.in-Some.left.0) ∷ []) → IfOk x (λ n. n.size ≡ c.in-Some.left.1)
     → record { diff : IfOk x (λ n. n.diff ≡ wanted); part : IfOk x (IsPart s m); sound : IfOk x (λ _. AreRising m) }) [
@@ -78,7 +78,7 @@ returns-in-None c =
       | None ↦ λ is. is ∙ ap (value_at m) c.as_str.ensures.bytes
       | Some v ↦ λ is. is ∙ ap (value_at m) c.as_str.ensures.bytes
     ] c.get-before.ensures.found in
-    let tries : op ≡ tried_op (alone s) (plan_of c.args.plan.now) (change_of c.args.op.now) (value_at m id) = c.in_ok-op.ensures ∙ ap (tried_op (alone s) (plan_of c.args.plan.now) (change_of c.args.op.now)) found in
+    let tries : op ≡ tried_op (decided s) (plan_of c.args.plan.now) (change_of c.args.op.now) (value_at m id) = c.in_ok-op.ensures ∙ ap (tried_op (decided s) (plan_of c.args.plan.now) (change_of c.args.op.now)) found in
     let key = c.as_str-2.result.now in
     let refused = subst (λ v. is_taken_in s part.size id op v ≡ false) found (subst (λ k. is_taken_in s part.size k op r ≡ false) c.as_str-2.ensures.bytes
     (subst (λ o. MatchOption o (is_taken_in s part.size key op r ≡ false) (λ l. (is_taken_in s part.size key op r ≡ true) × (maybe_data l.0 ≡ raw op r) × (l.1 ≡ size_after part.size r (raw op r)))) c.in-None.is c.in_ok-left.ensures)) in

@@ -7,7 +7,7 @@ use Rattle.doc_model.specs.Documents.{acts_on, left_on}
 use Rattle.room_model.specs.Accepting.{is_put_admitted}
 use Rattle.schema_core.specs.Admits.{is_admitted}
 use Rattle.schema_core.specs.SchemaOf.{schema_tree}
-use Rattle.room_schemas.specs.Decided.{alone}
+use Rattle.room_schemas.specs.Decided.{decided}
 use Rattle.room_accept.specs.Sizes.{size_after, is_within}
 use Rattle.room_accept.proofs.PartLemmas.{acted, and_false}
 use Rattle.room_accept.proofs.SizeLemmas.{within_same, exact_within}
@@ -21,7 +21,7 @@ returns-then-not-is_within c =
     let left : Some (maybe_data c.in-Some.after) ≡ left_on (is_admitted s) c.args.id.now op r = ap (option_map maybe_data) (sym c.in-Some.is) ∙ c.in_ok-after.ensures in
     let leaves = (acted (is_admitted s) c.args.id.now op r c.in-Some.after left).1 in
     let size = size_after c.args.size r (maybe_data c.in-Some.after) in
-    let rest : Bool = acts_on (is_admitted s) c.args.id.now op r && is_put_admitted (alone s) c.args.id.now op in
+    let rest : Bool = acts_on (is_admitted s) c.args.id.now op r && is_put_admitted (decided s) c.args.id.now op in
     ap (λ a. rest && is_within (size_after c.args.size r a)) (sym leaves)
     ∙ ap (λ b. rest && b) (sym (within_same size c.after-size.result c.after-size.ensures.count c.after-size.ensures.weight) ∙ sym c.is_within.ensures ∙ c.if-not-is_within.true)
     ∙ and_false rest
