@@ -4,7 +4,7 @@ ghost use Rattle.rooms_val.specs.Maps.{value_at, keys_of};
 ghost use Rattle.rooms_val.specs.View.{data_of};
 ghost use Rattle.schema_core.specs.SchemaOf.{schema_tree};
 ghost use Rattle.change_list.specs.Changes.{listed, is_below, AreSince};
-ghost use Rattle.room_model.specs.Schemas.{ClientSchema, presence_id};
+ghost use Rattle.room_model.specs.Schemas.{presence_id};
 ghost use Rattle.room_model.specs.Histories.{History, start_of, changed_after};
 ghost use Rattle.room_model.specs.Accepting.{is_taken, entry_of};
 ghost use Rattle.room_model.specs.Rooms as rooms;
@@ -126,22 +126,18 @@ impl RoomHistory {
     }
 
     /// What is accepted of a push of a session. `None` exactly where the push is refused. Nothing
-    /// changes. It costs what the diff names, and a logarithm of the records for each id. `F` is the
-    /// fault of an edit, which contracts alone name.
-    pub fn accept<F: Drop>(
-        &self,
-        alloc: Global,
-        member: Member<'_>,
-        push: Push<'_>,
-    ) -> Mem<Option<Accepted>>
-        ensures taken { IfOk result (λ accepted. (clients : ℕ → ClientSchema F)
-            → is_some accepted ≡ is_taken (decided (schema_tree self.now.kept.schema) clients) (member_of member.entry) (push_of push.entry)) }
-        ensures entry { IfOk result (λ accepted. IfSome accepted (λ a. (clients : ℕ → ClientSchema F)
-            → a.entry ≡ entry_of (decided (schema_tree self.now.kept.schema) clients) (member_of member.entry) self.now.kept.records.0 (push_of push.entry))) }
+    /// changes. It costs what the diff names, and a logarithm of the records for each id.
+    pub fn accept(&self, alloc: Global, member: Member<'_>, push: Push<'_>) -> Mem<Option<Accepted>>
+        ensures taken { IfOk result (λ accepted. is_some accepted
+            ≡ is_taken (decided (schema_tree self.now.kept.schema)) (member_of member.entry)
+            (push_of push.entry)) }
+        ensures entry { IfOk result (λ accepted. IfSome accepted (λ a. a.entry
+            ≡ entry_of (decided (schema_tree self.now.kept.schema)) (member_of member.entry)
+            self.now.kept.records.0 (push_of push.entry))) }
         ensures suits { IfOk result (λ accepted. IfSome accepted (Suits (schema_tree self.now.kept.schema) self.now.kept.records.0)) }
     {
         let kept = &self.kept;
-        accept::<F>(alloc, &kept.schema, &kept.records, kept.size, member, push)
+        accept(alloc, &kept.schema, &kept.records, kept.size, member, push)
     }
 
     /// Appends the entry of a push that was accepted, in this room as it is, and forgets the oldest
