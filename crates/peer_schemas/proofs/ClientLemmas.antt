@@ -6,7 +6,7 @@ use Rattle.schema_core.specs.Builds.{by_name}
 use Rattle.schema_core.specs.Tree.{SchemaTree, Types}
 use Rattle.schema_core.specs.declared.row.Scope.{Scope}
 use Rattle.schema_core.specs.declared.row.Scope.TheVariants.{Document, Session, Presence}
-use Rattle.room_model.specs.Schemas.{Schemas, AreLawful}
+use Rattle.room_model.specs.Schemas.{WorldSchemas, AreLawfulTogether}
 use Rattle.room_schemas.specs.Decided.{is_of_presence}
 use Rattle.shape_tree.specs.Records.{is_shape, is_binding}
 use Rattle.side_effects.specs.Completed.{completed}
@@ -63,12 +63,14 @@ module _ (version : ℕ) (s : SchemaTree) (known : IsVersion version) (at : IsSc
   pub same_document_at : (n : ℕ) → is_document (types_at n) ≡ is_document s
   same_document_at n = same_document (types_at n) s (table_version n) version refl at.types
 
-  lawful_of : AreLawful (schemas_of s)
+  lawful_of : AreLawfulTogether (schemas_of s)
   lawful_of = record {
-    apart = λ id is. document_apart (scope_of s id) is;
-    presence = presences version s at;
-    raises_nothing = λ d. refl;
-    lowers_nothing = λ d. refl;
+    room = record {
+      apart = λ id is. document_apart (scope_of s id) is;
+      presence = presences version s at;
+      raises_nothing = λ d. refl;
+      lowers_nothing = λ d. refl;
+    };
     same = λ n none id d. ap (λ types. is_admitted (alone types) id d) (same_types s version n sequences_are none ∙ sym types_are);
     completed = λ n document wanted diff is.
         ap (λ test. list_all (λ c. test c.0) diff) (sym (same_document_at n))
@@ -77,5 +79,5 @@ module _ (version : ℕ) (s : SchemaTree) (known : IsVersion version) (at : IsSc
   }
 
 -- what the tables decide is lawful
-pub lawful : (schemas : Schemas EditFault) → AreOfTables schemas → AreLawful schemas
-lawful schemas of = subst AreLawful (sym of.are) (lawful_of of.version of.room of.known of.at)
+pub lawful : (schemas : WorldSchemas EditFault) → AreOfTables schemas → AreLawfulTogether schemas
+lawful schemas of = subst AreLawfulTogether (sym of.are) (lawful_of of.version of.room of.known of.at)

@@ -8,7 +8,7 @@ use Rattle.migrate_seq.specs.Versions.{Versions}
 use Rattle.schema_core.specs.Admits.{is_admitted}
 use Rattle.schema_core.specs.Builds.{by_name}
 use Rattle.schema_core.specs.Tree.{SchemaTree}
-use Rattle.room_model.specs.Schemas.{Schemas, ClientSchema}
+use Rattle.room_model.specs.Schemas.{ClientSchema, WorldSchemas}
 use Rattle.room_schemas.specs.Decided.{decided}
 use Rattle.side_effects.specs.Completed.{completed}
 use Rattle.side_effects.specs.declared.fault.EditFault.{EditFault}
@@ -52,11 +52,11 @@ client_at version = record {
 }
 
 -- what they decide where the room has this schema
-abbrev pub schemas_of : SchemaTree → Schemas EditFault
-schemas_of s = decided s client_at
+abbrev pub schemas_of : SchemaTree → WorldSchemas EditFault
+schemas_of s = record { room = decided s; client = client_at }
 
 -- schemas are those of the tables: the room's is one of theirs
-pub record AreOfTables (schemas : Schemas EditFault) : Type 0 where
+pub record AreOfTables (schemas : WorldSchemas EditFault) : Type 0 where
   pub version : ℕ
   pub known : IsVersion version
   pub room : SchemaTree
