@@ -56,7 +56,7 @@ after_first sent k (entry ∷ history) low =
           ∙ sym (above-newest sent entry history)
     ] refl
 
-module _ {F : Type 0} (schemas : Schemas F) (member : Member) where
+module _ (schemas : Schemas) (member : Member) where
   abbrev tell : RecentTree → DataEvent
   tell = told_entry schemas member
 

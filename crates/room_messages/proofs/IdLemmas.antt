@@ -63,7 +63,7 @@ has-keys : {V : Type 0} (es : List (List ℕ × V)) (q : List ℕ) → has q (ke
 has-keys [] q = refl
 has-keys (e ∷ es) q = elim (ties q e.0) as (λ b. b || has q (keys_of es) ≡ is_some (cond b (Some e.1) (value_at es q))) [ true ↦ refl | false ↦ has-keys es q ]
 
-module _ {F : Type 0} (schemas : Schemas F) (plan : Plan) (history : History) where
+module _ (schemas : Schemas) (plan : Plan) (history : History) where
   abbrev m : Pairs
   m = records_of history
 
@@ -100,7 +100,7 @@ module _ {F : Type 0} (schemas : Schemas F) (plan : Plan) (history : History) wh
       ∙ sym (at-over as_put (records_with test m) diff q (rising-filter test m rises)))
 
 -- the presence of others, by one test
-pub others_by : {F : Type 0} (schemas : Schemas F) (session : ℕ) (m : Pairs) → records_with (λ id. schemas.is_presence id && not (is_own session id)) m ≡ others_of schemas session m
+pub others_by : (schemas : Schemas) (session : ℕ) (m : Pairs) → records_with (λ id. schemas.is_presence id && not (is_own session id)) m ≡ others_of schemas session m
 others_by schemas session m =
     filter-same (λ p. schemas.is_presence p.0 && not (is_own session p.0)) (λ p. not (is_own session p.0) && schemas.is_presence p.0) (λ p. swap (schemas.is_presence p.0) (not (is_own session p.0))) m
     ∙ sym (filter-both (λ p. not (is_own session p.0)) (λ p. schemas.is_presence p.0) m)

@@ -5,9 +5,8 @@ use Rattle.schema_core.specs.Tree.{SchemaTree}
 use Rattle.schema_core.specs.declared.row.Scope.{Scope}
 use Rattle.schema_core.specs.declared.row.Scope.TheVariants.{Document, Session, Presence}
 use Rattle.room_model.specs.Schemas.{AreLawful}
-use Rattle.room_schemas.specs.Decided.{is_of_presence}
+use Rattle.room_schemas.specs.Decided.{decided, is_of_presence}
 use Rattle.room_accept.specs.Suiting.{HasPresences}
-use Rattle.room_messages.specs.Told.{plain}
 
 scopes_apart : (scope : Option Scope) → is_of_document scope ≡ true → is_of_presence scope ≡ false
 scopes_apart None is = refl
@@ -15,13 +14,10 @@ scopes_apart (Some Document) is = refl
 scopes_apart (Some Session) is = refl
 scopes_apart (Some Presence) is = absurd (cc)
 
-pub lawful : (tree : SchemaTree) → HasPresences tree → AreLawful (plain tree)
+pub lawful : (tree : SchemaTree) → HasPresences tree → AreLawful (decided tree)
 lawful tree presences = record {
   apart = λ id. scopes_apart (scope_of tree id);
   presence = presences;
   raises_nothing = λ d. refl;
   lowers_nothing = λ d. refl;
-  same = λ version is id d. refl;
-  completed = λ version document wanted diff is. absurd (cc);
-  completed_rises = λ version document wanted diff is. absurd (cc);
 }

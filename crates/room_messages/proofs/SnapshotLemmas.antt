@@ -10,15 +10,15 @@ use Rattle.schema_core.specs.Tree.{SchemaTree}
 use Rattle.room_model.specs.Schemas.{Plan, is_own, records_with, doc}
 use Rattle.room_model.specs.Histories.{History, records_of, start_of}
 use Rattle.room_model.specs.Messages.{known_clock, changes_after, with_puts, others_of}
-use Rattle.room_schemas.specs.Decided.{is_presence}
+use Rattle.room_schemas.specs.Decided.{decided, is_presence}
 use Rattle.room_history.specs.Keeps.{Keeps}
 use Rattle.room_history.specs.declared.kept.Kept.{Kept}
-use Rattle.room_messages.specs.Told.{plain, state_of, IsFrom}
+use Rattle.room_messages.specs.Told.{state_of, IsFrom}
 use Rattle.room_messages.proofs.IdLemmas.{AreChanged, states_changed, states_put, others_by}
 
 -- a diff with what records have under each of some ids
 abbrev pub with_states_of : SchemaTree → Plan → Pairs → RecordOps → List (List ℕ) → RecordOps
-with_states_of tree plan m diff ids = fold (λ d id. with_key d id (state_of (plain tree) plan (value_at m id))) diff ids
+with_states_of tree plan m diff ids = fold (λ d id. with_key d id (state_of (decided tree) plan (value_at m id))) diff ids
 
 module _ (first : ℕ) (history : History) (kept : Kept) (keeps : Keeps first history kept) (tree : SchemaTree) (plan : Plan) where
   kept_records : kept.records.0 ≡ records_of history
@@ -26,23 +26,23 @@ module _ (first : ℕ) (history : History) (kept : Kept) (keeps : Keeps first hi
 
   -- what changed under ids that pass a test
   pub changed_states : (test : List ℕ → Bool) (clock : ℕ) (ids : List (List ℕ)) (diff : RecordOps) → AreChanged clock history ids
-      → diff ≡ with_states_of tree plan kept.records.0 [] (filter test ids) → diff ≡ changes_after (plain tree) plan test clock history
+      → diff ≡ with_states_of tree plan kept.records.0 [] (filter test ids) → diff ≡ changes_after (decided tree) plan test clock history
   changed_states test clock ids diff moved is =
-      is ∙ ap (λ m. with_states_of tree plan m [] (filter test ids)) kept_records ∙ states_changed (plain tree) plan history test clock ids moved
+      is ∙ ap (λ m. with_states_of tree plan m [] (filter test ids)) kept_records ∙ states_changed (decided tree) plan history test clock ids moved
 
   -- all records under ids that pass a test, over another diff
   pub all_states : (test : List ℕ → Bool) (before diff : RecordOps) → AreRising before
-      → diff ≡ with_states_of tree plan kept.records.0 before (filter test (keys_of kept.records.0)) → diff ≡ with_puts (plain tree) plan (records_with test (records_of history)) before
+      → diff ≡ with_states_of tree plan kept.records.0 before (filter test (keys_of kept.records.0)) → diff ≡ with_puts (decided tree) plan (records_with test (records_of history)) before
   all_states test before diff rising is =
-      is ∙ ap (λ m. with_states_of tree plan m before (filter test (keys_of m))) kept_records ∙ states_put (plain tree) plan history test before rising
+      is ∙ ap (λ m. with_states_of tree plan m before (filter test (keys_of m))) kept_records ∙ states_put (decided tree) plan history test before rising
 
   -- so the presence of others
   pub other_states : (session : ℕ) (before diff : RecordOps) → AreRising before
       → diff ≡ with_states_of tree plan kept.records.0 before (filter (λ id. is_presence tree id && not (is_own session id)) (keys_of kept.records.0))
-      → diff ≡ with_puts (plain tree) plan (others_of (plain tree) session (records_of history)) before
+      → diff ≡ with_puts (decided tree) plan (others_of (decided tree) session (records_of history)) before
   other_states session before diff rising is =
       all_states (λ id. is_presence tree id && not (is_own session id)) before diff rising is
-      ∙ ap (λ others. with_puts (plain tree) plan others before) (others_by (plain tree) session (records_of history))
+      ∙ ap (λ others. with_puts (decided tree) plan others before) (others_by (decided tree) session (records_of history))
 
 -- the clock that a client has reached, where the room can't tell
 pub not_known : (reached : ℤ) (start clock : ℕ) → (reached <ℤ pos start) ⊎ (pos clock <ℤ reached) → None ≡ option_map pos (known_clock reached start clock)

@@ -18,7 +18,7 @@ use Rattle.room_messages.specs.declared.told.Part.TheVariants.{Whole, Document}
 use Rattle.room_messages.specs.Told.{told_of, is_told, told_part, told_result, told_by}
 use Rattle.room_messages.proofs.ListLemmas.{and_true, filter-same, filter-both}
 
-module _ {F : Type 0} (schemas : Schemas F) where
+module _ (schemas : Schemas) where
   -- what stands in records under the ids of a diff
   abbrev pub under : Pairs → RecordOps → List (List ℕ × Option Data)
   under m diff = map (λ c. (c.0, value_at m c.0)) diff

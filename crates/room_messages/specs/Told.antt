@@ -1,15 +1,13 @@
 -- What a session is told of an entry, by what stood under the entry's ids after it.
-use Rattle.std.specs.Prelude.{◌≡◌, ℕ, ◌≤◌, ◌==◌, ℤ, pos, List, [], ◌∷◌, Bool, true, false, not, ◌&&◌, ◌||◌, if◌then◌else◌, Option, Some, None, int_lt, Err}
+use Rattle.std.specs.Prelude.{◌≡◌, ℕ, ◌≤◌, ◌==◌, ℤ, pos, List, [], ◌∷◌, Bool, true, false, not, ◌&&◌, ◌||◌, if◌then◌else◌, Option, Some, None, int_lt}
 use Rattle.std.specs.Option.{option_map_or}
 use Rattle.rooms_val.specs.Data.{Data}
 use Rattle.field_ops.specs.RecordOps.{RecordOpTree, put, remove, RecordOps}
-use Rattle.schema_core.specs.Admits.{is_admitted}
 use Rattle.schema_core.specs.SchemaOf.{schema_tree}
-use Rattle.schema_core.specs.Tree.{SchemaTree}
 use Rattle.room_schemas.specs.Decided.{decided}
 use Rattle.room_history.specs.Entries.{RecentTree}
 use Rattle.room_history.specs.declared.kept.Kept.{Kept}
-use Rattle.room_model.specs.Schemas.{Schemas, ClientSchema, Plan, Member, is_own}
+use Rattle.room_model.specs.Schemas.{Schemas, Plan, Member, is_own}
 use Rattle.room_model.specs.Histories.{History}
 use Rattle.room_model.specs.Acting.{document_ops, IsActionOf}
 use Rattle.room_model.specs.declared.history.Author.{Author}
@@ -21,7 +19,7 @@ use Rattle.sync_msgs.specs.declared.data_event.Action.TheVariants.{Commit, Disca
 use Rattle.sync_msgs.specs.declared.data_event.DataEvent.{DataEvent}
 use Rattle.sync_msgs.specs.declared.data_event.DataEvent.TheVariants.{Patch, PushResult}
 
-module _ {F : Type 0} (schemas : Schemas F) where
+module _ (schemas : Schemas) where
   -- a put of a record as a session sees it, or a remove where there is none
   abbrev pub state_of : Plan → Option Data → RecordOpTree
   state_of plan r = option_map_or (λ d. put (schemas.lower plan d)) r remove
@@ -75,15 +73,9 @@ module _ {F : Type 0} (schemas : Schemas F) where
 abbrev pub is_above : ℕ → RecentTree → Bool
 is_above sent recent = int_lt (pos sent) recent.clock
 
--- what a room's schema decides, where the schemas of clients admit the same and complete no edit: messages ask nothing of those
-abbrev pub plain : SchemaTree → Schemas (Unit {0})
-plain tree =
-    decided tree
-    (λ version. record { admits = is_admitted tree; complete = λ document wanted. Err tt; presence_fault = λ d. None; versions = [] })
-
--- what the schema of a room decides so
-abbrev pub plain_of : Kept → Schemas (Unit {0})
-plain_of kept = plain (schema_tree kept.schema)
+-- what the schema of a room decides
+abbrev pub decided_by : Kept → Schemas
+decided_by kept = decided (schema_tree kept.schema)
 
 -- a clock from which on a room can tell what happened lies at or above the start
 abbrev pub IsFrom : ℕ → Option ℕ → Type 0

@@ -1,7 +1,7 @@
 //! What a session is sent that asked to be connected.
 ghost use Rattle.std.specs.Prelude.{◌≡◌, ℕ, ◌+◌, ◌≤◌, pos, [], length, Option, Some, IfOk, OnOk, option_map};
 ghost use Rattle.schema_core.specs.SchemaOf.{schema_tree};
-ghost use Rattle.room_model.specs.Schemas.{ClientSchema, doc};
+ghost use Rattle.room_model.specs.Schemas.{doc};
 ghost use Rattle.room_model.specs.Histories.{History, records_of, start_of, changed_after};
 ghost use Rattle.room_model.specs.Messages.{known_clock, hydration, changes_after, with_puts};
 ghost use Rattle.room_model.specs.Messages.{others_of, document_diff, snapshot_diff, snapshot};
@@ -9,7 +9,7 @@ ghost use Rattle.room_schemas.specs.Decided.{decided};
 ghost use Rattle.room_accept.specs.Plans.{plan_of};
 ghost use Rattle.room_accept.specs.Pushes.{member_of};
 ghost use Rattle.room_history.specs.Keeps.{Keeps};
-ghost use Rattle.room_messages.specs.Told.{plain_of, IsFrom};
+ghost use Rattle.room_messages.specs.Told.{decided_by, IsFrom};
 
 use crate::ids::{changed_ids, keep_documents, other_presences};
 use crate::states::put_states;
@@ -26,8 +26,8 @@ use sync_msgs::{Hydration, ServerMessage};
 /// changed in the document since, or all of it where the room can't tell, and the presence of others.
 ///
 /// Where it tells what changed, it counts at most a step for each id whose last entry lies above the
-/// client's clock, and one more. `F` is the fault of an edit, which contracts alone name.
-pub fn snapshot<F: Drop, L: Ledger>(
+/// client's clock, and one more.
+pub fn snapshot<L: Ledger>(
     alloc: Global,
     room: &RoomHistory,
     member: Member<'_>,
@@ -35,9 +35,9 @@ pub fn snapshot<F: Drop, L: Ledger>(
     reached: i64,
     steps: &mut Steps<L>,
 ) -> Mem<ServerMessage>
-    ensures message { IfOk result (λ said. (first : ℕ) (history : History) (clients : ℕ → ClientSchema F)
+    ensures message { IfOk result (λ said. (first : ℕ) (history : History)
         → Keeps first history room.now.kept
-        → said ≡ snapshot (decided (schema_tree room.now.kept.schema) clients) (member_of member.entry)
+        → said ≡ snapshot (decided (schema_tree room.now.kept.schema)) (member_of member.entry)
         request.now reached first history) }
     ensures ticks { IfOk result (λ said. (first : ℕ) (history : History) (clock : ℕ)
         → Keeps first history room.now.kept
@@ -89,7 +89,7 @@ fn snapshot_diff<L: Ledger>(
 ) -> Mem<Diff>
     ensures diff { IfOk result (λ diff. (first : ℕ) (history : History) (clock : Option ℕ)
         → Keeps first history room.now.kept → known ≡ option_map pos clock → IsFrom (start_of first history) clock
-        → diff ≡ snapshot_diff (plain_of room.now.kept) (member_of member.entry) clock history) }
+        → diff ≡ snapshot_diff (decided_by room.now.kept) (member_of member.entry) clock history) }
     ensures ticks { IfOk result (λ diff. (first : ℕ) (history : History) (clock : ℕ)
         → Keeps first history room.now.kept → known ≡ Some (pos clock) → start_of first history ≤ clock
         → steps.new ≤ steps.old + (length (changed_after clock history) + 1)) }
@@ -109,7 +109,7 @@ fn document_diff<L: Ledger>(
 ) -> Mem<Diff>
     ensures diff { IfOk result (λ diff. (first : ℕ) (history : History) (clock : Option ℕ)
         → Keeps first history room.now.kept → known ≡ option_map pos clock → IsFrom (start_of first history) clock
-        → diff ≡ document_diff (plain_of room.now.kept) (plan_of plan.now) clock history) }
+        → diff ≡ document_diff (decided_by room.now.kept) (plan_of plan.now) clock history) }
     ensures ticks { IfOk result (λ diff. (first : ℕ) (history : History) (clock : ℕ)
         → Keeps first history room.now.kept → known ≡ Some (pos clock) → start_of first history ≤ clock
         → steps.new ≤ steps.old + (length (changed_after clock history) + 1)) }
@@ -130,7 +130,8 @@ fn changed_documents<L: Ledger>(
 ) -> Mem<Diff>
     ensures diff { IfOk result (λ diff. (first : ℕ) (history : History) (known : ℕ)
         → Keeps first history room.now.kept → clock ≡ pos known → start_of first history ≤ known
-        → diff ≡ changes_after (plain_of room.now.kept) (plan_of plan.now) (plain_of room.now.kept).is_document known history) }
+        → diff ≡ changes_after (decided_by room.now.kept) (plan_of plan.now)
+        (decided_by room.now.kept).is_document known history) }
     ensures ticks { IfOk result (λ diff. (first : ℕ) (history : History) (known : ℕ)
         → Keeps first history room.now.kept → clock ≡ pos known → start_of first history ≤ known
         → steps.new ≡ steps.old + (length (changed_after known history) + 1)) }
@@ -145,8 +146,8 @@ fn changed_documents<L: Ledger>(
 // Puts of all records of the document.
 fn all_documents(alloc: Global, room: &RoomHistory, plan: &SessionPlan) -> Mem<Diff>
     ensures { IfOk result (λ diff. (first : ℕ) (history : History) → Keeps first history room.now.kept
-        → diff ≡ with_puts (plain_of room.now.kept) (plan_of plan.now)
-        (doc (plain_of room.now.kept) (records_of history)) []) }
+        → diff ≡ with_puts (decided_by room.now.kept) (plan_of plan.now)
+        (doc (decided_by room.now.kept) (records_of history)) []) }
 {
     let mut ids = room.ids(alloc)?;
     keep_documents(room.schema(), &mut ids);
@@ -158,8 +159,8 @@ fn all_documents(alloc: Global, room: &RoomHistory, plan: &SessionPlan) -> Mem<D
 // Puts the presence of all sessions but one into a diff.
 fn put_others(alloc: Global, room: &RoomHistory, member: Member<'_>, diff: &mut Diff) -> Mem<()>
     ensures { OnOk result ((first : ℕ) (history : History) → Keeps first history room.now.kept
-        → diff.new ≡ with_puts (plain_of room.now.kept) (plan_of member.entry.plan.now)
-        (others_of (plain_of room.now.kept) member.entry.session (records_of history)) diff.old) }
+        → diff.new ≡ with_puts (decided_by room.now.kept) (plan_of member.entry.plan.now)
+        (others_of (decided_by room.now.kept) member.entry.session (records_of history)) diff.old) }
 {
     // That the ids of a diff rise is told by their number.
     let _ = diff.len();

@@ -5,8 +5,9 @@ ghost use Rattle.rooms_val.specs.Maps.{value_at, with_key};
 ghost use Rattle.field_ops.specs.View.{maybe_data};
 ghost use Rattle.field_ops.specs.ViewRecordOps.{change_of};
 ghost use Rattle.schema_core.specs.SchemaOf.{schema_tree};
+ghost use Rattle.room_schemas.specs.Decided.{decided};
 ghost use Rattle.room_accept.specs.Plans.{plan_of};
-ghost use Rattle.room_messages.specs.Told.{plain, plain_of, state_of};
+ghost use Rattle.room_messages.specs.Told.{decided_by, state_of};
 
 use field_ops::{Diff, RecordOp};
 use room_accept::SessionPlan;
@@ -23,7 +24,8 @@ pub(crate) fn state_op(
     val: Option<&Val>,
 ) -> Mem<RecordOp>
     ensures { IfOk result (λ op. change_of op
-        ≡ state_of (plain (schema_tree schema.now)) (plan_of plan.now) (maybe_data (option_copied val.entry))) }
+        ≡ state_of (decided (schema_tree schema.now)) (plan_of plan.now)
+        (maybe_data (option_copied val.entry))) }
 {
     match val {
         Some(val) => Ok(RecordOp::Put(plan.lower(alloc, schema, val)?)),
@@ -40,7 +42,8 @@ pub(crate) fn put_states(
     ids: Vec<Text>,
 ) -> Mem<()>
     ensures { OnOk result (diff.new
-        ≡ fold (λ d id. with_key d id (state_of (plain_of room.now.kept) (plan_of plan.now) (value_at room.now.kept.records.0 id)))
+        ≡ fold (λ d id. with_key d id (state_of (decided_by room.now.kept) (plan_of plan.now)
+        (value_at room.now.kept.records.0 id)))
         diff.old ids.items) }
 {
     'ids: for id in ids {

@@ -7,10 +7,11 @@ ghost use Rattle.field_ops.specs.View.{maybe_data};
 ghost use Rattle.field_ops.specs.ViewRecordOps.{change_of};
 ghost use Rattle.schema_core.specs.SchemaOf.{schema_tree};
 ghost use Rattle.room_model.specs.Schemas.{presence_id};
+ghost use Rattle.room_schemas.specs.Decided.{decided};
 ghost use Rattle.room_accept.specs.Plans.{plan_of};
 ghost use Rattle.room_accept.specs.Pushes.{member_of};
 ghost use Rattle.room_history.specs.Entries.{recent_tree};
-ghost use Rattle.room_messages.specs.Told.{plain, is_in, told_of, told_part, told_result, told_entry};
+ghost use Rattle.room_messages.specs.Told.{is_in, told_of, told_part, told_result, told_entry};
 
 use crate::states::state_op;
 use field_ops::{Diff, RecordOp};
@@ -40,7 +41,8 @@ pub(crate) fn told_entry(
 ) -> Mem<DataEvent>
     requires { own.now ≡ presence_id member.session }
     ensures { IfOk result (λ event. event
-        ≡ told_entry (plain (schema_tree schema.now)) (member_of member.entry) (recent_tree recent.now)) }
+        ≡ told_entry (decided (schema_tree schema.now)) (member_of member.entry)
+        (recent_tree recent.now)) }
 {
     if let Some(author) = &recent.entry.author {
         if author.session == member.session {
@@ -67,7 +69,8 @@ fn told_result(
     action: &Action,
 ) -> Mem<Action>
     requires { own.now ≡ presence_id member.session }
-    ensures { IfOk result (λ told. told ≡ told_result (plain (schema_tree schema.now)) (member_of member.entry)
+    ensures { IfOk result (λ told. told
+        ≡ told_result (decided (schema_tree schema.now)) (member_of member.entry)
         recent.now.entry.diff (seen maybe_data recent.now.after.items) action.now) }
 {
     match action {
@@ -90,7 +93,8 @@ fn told_part(
     recent: &RecentEntry,
 ) -> Mem<Diff>
     requires { own.now ≡ presence_id member.session }
-    ensures { IfOk result (λ told. told ≡ told_part (plain (schema_tree schema.now)) (member_of member.entry) part
+    ensures { IfOk result (λ told. told
+        ≡ told_part (decided (schema_tree schema.now)) (member_of member.entry) part
         recent.now.entry.diff (seen maybe_data recent.now.after.items)) }
 {
     let mut told = Diff::new(alloc);
@@ -109,14 +113,15 @@ fn told_part(
 
 // Whether a session is told of an id in a part of a diff: not of its own presence.
 fn is_told(schema: &Schema, own: &Text, part: Part, id: &Text) -> bool
-    ensures { result ≡ not (bytes_eq id.now own.now) && is_in (plain (schema_tree schema.now)) part id.now }
+    ensures { result ≡ not (bytes_eq id.now own.now)
+        && is_in (decided (schema_tree schema.now)) part id.now }
 {
     id.as_str() != own.as_str() && is_in(schema, part, id)
 }
 
 // Whether an id is in a part of a diff.
 fn is_in(schema: &Schema, part: Part, id: &Text) -> bool
-    ensures { result ≡ is_in (plain (schema_tree schema.now)) part id.now }
+    ensures { result ≡ is_in (decided (schema_tree schema.now)) part id.now }
 {
     match part {
         Part::Whole => true,
@@ -134,7 +139,8 @@ fn told_op(
     op: &RecordOp,
 ) -> Mem<RecordOp>
     ensures { IfOk result (λ told. change_of told
-        ≡ told_of (plain (schema_tree schema.now)) (plan_of plan.now) (maybe_data after.now) (change_of op.now)) }
+        ≡ told_of (decided (schema_tree schema.now)) (plan_of plan.now) (maybe_data after.now)
+        (change_of op.now)) }
 {
     if plan.is_empty() {
         op.copy(alloc)

@@ -1,7 +1,7 @@
 //! What a session is sent of the entries above its sent clock.
 ghost use Rattle.std.specs.Prelude.{◌≡◌, ℕ, ◌+◌, ◌-◌, ◌≤◌, pos, filter, length, map, min, not, int_lt, IfOk};
 ghost use Rattle.schema_core.specs.SchemaOf.{schema_tree};
-ghost use Rattle.room_model.specs.Schemas.{ClientSchema, is_own};
+ghost use Rattle.room_model.specs.Schemas.{is_own};
 ghost use Rattle.room_model.specs.Histories.{History, start_of, above, changed_after};
 ghost use Rattle.room_model.specs.Messages.{changes_after, catch_up, updates};
 ghost use Rattle.room_model.specs.declared.limits.TheConstants.{MOST_TOLD};
@@ -11,7 +11,7 @@ ghost use Rattle.room_accept.specs.Pushes.{member_of};
 ghost use Rattle.room_history.specs.Entries.{recent_tree};
 ghost use Rattle.room_history.specs.Keeps.{Keeps};
 ghost use Rattle.room_messages.specs.Results.{own_clocks, bare};
-ghost use Rattle.room_messages.specs.Told.{plain_of, told_entry, HasOwnActions};
+ghost use Rattle.room_messages.specs.Told.{decided_by, told_entry, HasOwnActions};
 
 use crate::ids::{changed_ids, drop_own};
 use crate::states::put_states;
@@ -31,9 +31,8 @@ use sync_msgs::{Action, DataEvent, Events, ServerMessage};
 ///
 /// The sent clock is at most the room's, and at least the lesser of that less 32 and of the clock up
 /// to which removals are forgotten. Where more than 32 entries lie above the sent clock, it counts at
-/// most a step for each id whose last entry lies above it, and one more. `F` is the fault of an edit,
-/// which contracts alone name.
-pub fn updates<F: Drop, L: Ledger>(
+/// most a step for each id whose last entry lies above it, and one more.
+pub fn updates<L: Ledger>(
     alloc: Global,
     room: &RoomHistory,
     member: Member<'_>,
@@ -41,13 +40,13 @@ pub fn updates<F: Drop, L: Ledger>(
     pushed: &[i64],
     steps: &mut Steps<L>,
 ) -> Mem<ServerMessage>
-    ensures message { IfOk result (λ said. (first : ℕ) (history : History) (clients : ℕ → ClientSchema F) (told : ℕ)
+    ensures message { IfOk result (λ said. (first : ℕ) (history : History) (told : ℕ)
         → Keeps first history room.now.kept
-        → HasOwnActions (plain_of room.now.kept) history
+        → HasOwnActions (decided_by room.now.kept) history
         → sent ≡ pos told → told ≤ length history
         → min (start_of first history) (length history - MOST_TOLD) ≤ told
         → pushed.now ≡ own_clocks member.entry.session (above told history)
-        → said ≡ updates (decided (schema_tree room.now.kept.schema) clients) (member_of member.entry)
+        → said ≡ updates (decided (schema_tree room.now.kept.schema)) (member_of member.entry)
         told history) }
     ensures ticks { IfOk result (λ said. (first : ℕ) (history : History) (told : ℕ)
         → Keeps first history room.now.kept
@@ -67,7 +66,7 @@ pub fn updates<F: Drop, L: Ledger>(
 // An event for each entry above the sent clock, of which the room keeps all.
 fn tell_entries(alloc: Global, room: &RoomHistory, member: Member<'_>, sent: i64) -> Mem<Events>
     ensures { IfOk result (λ events. events
-        ≡ map (λ r. told_entry (plain_of room.now.kept) (member_of member.entry) (recent_tree r))
+        ≡ map (λ r. told_entry (decided_by room.now.kept) (member_of member.entry) (recent_tree r))
         (filter (λ r. int_lt sent r.clock) room.now.kept.recent.items)) }
 {
     let own = presence_id(alloc, member.session)?;
@@ -92,7 +91,7 @@ fn catch_up<L: Ledger>(
     ensures events { IfOk result (λ events. (first : ℕ) (history : History) (told : ℕ)
         → Keeps first history room.now.kept → sent ≡ pos told → start_of first history ≤ told
         → pushed.now ≡ own_clocks member.entry.session (above told history)
-        → events ≡ catch_up (plain_of room.now.kept) (member_of member.entry) told history) }
+        → events ≡ catch_up (decided_by room.now.kept) (member_of member.entry) told history) }
     ensures ticks { IfOk result (λ events. (first : ℕ) (history : History) (told : ℕ)
         → Keeps first history room.now.kept → sent ≡ pos told → start_of first history ≤ told
         → steps.new ≡ steps.old + (length (changed_after told history) + 1)) }
@@ -131,7 +130,7 @@ fn changes_of_others<L: Ledger>(
 ) -> Mem<Diff>
     ensures diff { IfOk result (λ diff. (first : ℕ) (history : History) (told : ℕ)
         → Keeps first history room.now.kept → sent ≡ pos told → start_of first history ≤ told
-        → diff ≡ changes_after (plain_of room.now.kept) (plan_of member.entry.plan.now)
+        → diff ≡ changes_after (decided_by room.now.kept) (plan_of member.entry.plan.now)
         (λ id. not (is_own member.entry.session id)) told history) }
     ensures ticks { IfOk result (λ diff. (first : ℕ) (history : History) (told : ℕ)
         → Keeps first history room.now.kept → sent ≡ pos told → start_of first history ≤ told

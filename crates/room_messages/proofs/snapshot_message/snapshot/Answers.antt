@@ -10,7 +10,7 @@ use Rattle.room_messages.proofs.SnapshotLemmas.{from_start}
 use Rattle.room_messages.proofs.snapshot_message.snapshot.Goals as goal
 
 pub returns-clause-message : goal.returns-clause-message
-returns-clause-message g c = λ first history clients keeps.
+returns-clause-message g c = λ first history keeps.
     let start = start_of first history in
     let reached = to_z-of_z w64 c.args.reached c.ranges.reached in
     let known = known_clock c.args.reached start (length history) in

@@ -8,15 +8,16 @@ use Rattle.field_ops.specs.View.{maybe_data}
 use Rattle.field_ops.specs.RecordOps.{RecordOps, IsSoundDiff}
 use Rattle.field_ops.specs.ViewRecordOps.{change_of, changes_view}
 use Rattle.schema_core.specs.SchemaOf.{schema_tree}
+use Rattle.room_schemas.specs.Decided.{decided}
 use Rattle.room_accept.specs.Pushes.{member_of}
-use Rattle.room_messages.specs.Told.{plain, is_in, is_told, told_part}
+use Rattle.room_messages.specs.Told.{is_in, is_told, told_part}
 use Rattle.room_messages.proofs.ToldLemmas.{rising-part, told_further, not_told}
 use Rattle.room_messages.proofs.told.told_part.Goals as goal
 use Rattle.room_messages.proofs.told.told_part.Goals.{then-is_told+in_ok-op+in_ok-copy+in_ok-put, else-is_told}
 
 pub ops-preserved : goal.ops-preserved
 ops-preserved c =
-    let schemas = plain (schema_tree c.args.schema.now) in
+    let schemas = decided (schema_tree c.args.schema.now) in
     let member = member_of c.args.member in
     let part = c.args.part in
     let ops = c.as_slice-ops.result.now in

@@ -4,15 +4,15 @@ use mir.Val.{SFits}
 use Rattle.schema_core.specs.SchemaOf.{schema_tree}
 use Rattle.sync_msgs.specs.declared.data_event.DataEvent.TheVariants.{Patch}
 use Rattle.room_model.specs.Histories.{above}
+use Rattle.room_schemas.specs.Decided.{decided}
 use Rattle.room_accept.specs.Pushes.{member_of}
 use Rattle.room_messages.specs.Results.{bare}
-use Rattle.room_messages.specs.Told.{plain}
 use Rattle.room_messages.proofs.ResultLemmas.{bare_of_clocks}
 use Rattle.room_messages.proofs.updates_message.catch_up.Goals as goal
 
 pub returns-clause-events : goal.returns-clause-events
 returns-clause-events g c = λ first history told keeps is from pushed.
-    let schemas = plain (schema_tree c.args.room.now.kept.schema) in
+    let schemas = decided (schema_tree c.args.room.now.kept.schema) in
     let low = c.clock.ensures.low in
     let high = c.clock.ensures.high in
     let fits : SFits w64 c.clock.result = search rules in

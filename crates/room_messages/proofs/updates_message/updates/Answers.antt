@@ -5,16 +5,17 @@ use mir.Val.{SFits}
 use Rattle.schema_core.specs.SchemaOf.{schema_tree}
 use Rattle.sync_msgs.specs.declared.server_message.ServerMessage.TheVariants.{Data}
 use Rattle.room_model.specs.Messages.{events_after, catch_up}
+use Rattle.room_schemas.specs.Decided.{decided}
 use Rattle.room_accept.specs.Pushes.{member_of}
 use Rattle.room_history.specs.Entries.{recent_tree}
-use Rattle.room_messages.specs.Told.{plain, told_entry}
+use Rattle.room_messages.specs.Told.{told_entry}
 use Rattle.room_messages.proofs.EventLemmas.{events_of_items}
 use Rattle.room_messages.proofs.UpdatesLemmas.{few, told_each}
 use Rattle.room_messages.proofs.updates_message.updates.Goals as goal
 
 pub returns-in_ok-events-2-clause-message : goal.returns-in_ok-events-2-clause-message
-returns-in_ok-events-2-clause-message g c = λ first history clients told keeps own is within near pushed.
-    let schemas = plain (schema_tree c.args.room.now.kept.schema) in
+returns-in_ok-events-2-clause-message g c = λ first history told keeps own is within near pushed.
+    let schemas = decided (schema_tree c.args.room.now.kept.schema) in
     let member = member_of c.args.member in
     let items = c.args.room.now.kept.recent.items in
     let low = c.clock.ensures.low in
