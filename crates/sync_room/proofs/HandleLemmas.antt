@@ -20,7 +20,7 @@ use Rattle.sync_room.specs.declared.session.Session.{Session}
 use Rattle.sync_room.specs.declared.sessions.Sessions.{Sessions}
 use Rattle.sync_room.proofs.TableLemmas.{changed, set_same}
 
-module _ {F : Type 0} (schemas : Schemas F) (number : ℕ) (session : model.Session) (state : model.Room) where
+module _ (schemas : Schemas) (number : ℕ) (session : model.Session) (state : model.Room) where
   -- a session that isn't new asks
   pub asks_again : (ask : model.Ask) (phase : Phase) → is_new phase ≡ false
       → model.after_connect schemas number session ask state (phase_of phase) ≡ model.refuse number session InvalidRecord state
@@ -80,7 +80,7 @@ reserved state table key s t h at with =
     subst (λ ss. Holds (record state { sessions = ss }) (with_at key t table)) sessions (changed state table h key s at t number kept)
 
 -- a push of a session that isn't live, of one in a full room, of one that is refused, and of one that is taken
-module _ {F : Type 0} (schemas : Schemas F) (number : ℕ) (session : model.Session) (state : model.Room) (push : Push) where
+module _ (schemas : Schemas) (number : ℕ) (session : model.Session) (state : model.Room) (push : Push) where
   pub pushes_early : (phase : Phase) → is_live phase ≡ false → model.after_push schemas number session push state (phase_of phase) ≡ model.refuse number session InvalidRecord state
   pushes_early New is = refl
   pushes_early (Asked request reached plan) is = refl

@@ -7,7 +7,7 @@ use Rattle.slab.proofs.SlabLemmas.{Updates-with_value}
 use Rattle.schema_core.specs.Tree.{SchemaTree}
 use Rattle.room_model.specs.Accepting.{Push, is_taken, entry_of, document_part, action_of}
 use Rattle.room_model.specs.Acting.{document_ops, IsActionOf}
-use Rattle.room_model.specs.Schemas.{Schemas, ClientSchema, Member}
+use Rattle.room_model.specs.Schemas.{Schemas, Member}
 use Rattle.room_model.specs.Rooms as model
 use Rattle.room_model.specs.Reachable.{is_over}
 use Rattle.room_model.specs.declared.handled.Handled.{Handled}
@@ -20,7 +20,7 @@ use Rattle.room_accept.specs.Plans.{plan_of}
 use Rattle.room_accept.specs.Suiting.{HasPresences}
 use Rattle.room_accept.specs.declared.plan.SessionPlan.{SessionPlan}
 use Rattle.room_history.specs.Keeps.{Keeps}
-use Rattle.room_messages.specs.Told.{plain, HasOwnActions}
+use Rattle.room_messages.specs.Told.{HasOwnActions}
 use Rattle.room_messages.proofs.LawfulLemmas.{lawful}
 use Rattle.sync_msgs.specs.declared.client_message.ClientMessage.{ClientMessage}
 use Rattle.sync_msgs.specs.declared.end_reason.EndReason.{EndReason}
@@ -36,7 +36,7 @@ use Rattle.sync_room.proofs.RoomLemmas.{changes, replied}
 use Rattle.sync_room.proofs.TableLemmas.{noted}
 
 -- a new session asks
-pub asks : {F : Type 0} (schemas : Schemas F) (state : model.Room) (room after : Room) (key : ℕ) (s : Session) (ask : model.Ask) (plan : SessionPlan)
+pub asks : (schemas : Schemas) (state : model.Room) (room after : Room) (key : ℕ) (s : Session) (ask : model.Ask) (plan : SessionPlan)
     → Agrees state room → get room.sessions.present key ≡ Some s → is_new s.phase ≡ true → model.protocol_fault ask.protocol ≡ None
     → Ok (plan_of plan) ≡ schemas.plan_for ask.versions → IsChanged key (record s { phase = Asked ask.request ask.reached plan }) room after
     → Follows (model.after_connect schemas s.number (session_of s) ask state (phase_of s.phase)) handled.Entered after
@@ -56,15 +56,15 @@ same_agrees state room after key s u h at with last keeps schema sessions = reco
   last = last ∙ h.last;
   history = keeps;
   sessions = subst (Holds state) (sym sessions) (reserved state room.sessions key s u h.sessions at with);
-  says = subst (λ tree. HasOwnActions (plain tree) state.history) (sym schema) h.says;
+  says = subst (λ tree. HasOwnActions (decided tree) state.history) (sym schema) h.says;
 }
 
 -- a push is taken: its entry is appended and its client clock noted, and then the sessions are ended that have become too slow
-pub taken : {F : Type 0} (schemas : Schemas F) (state : model.Room) (room between after : Room) (key : ℕ) (s u t : Session) (push : Push) (entry : Entry)
+pub taken : (schemas : Schemas) (state : model.Room) (room between after : Room) (key : ℕ) (s u t : Session) (push : Push) (entry : Entry)
     → Agrees state room → get room.sessions.present key ≡ Some s
     → model.after_push schemas s.number (session_of s) push state (phase_of s.phase) ≡ record { reply = handled.Taken; room = model.after_entry entry state }
     → IsByPush s.number push.client_clock entry
-    → ((author : Author) → entry.author ≡ Some author → IsActionOf (document_ops (plain (tree_of room)) entry.diff) author.action)
+    → ((author : Author) → entry.author ≡ Some author → IsActionOf (document_ops (decided (tree_of room)) entry.diff) author.action)
     → IsWithPushed s.pushed.items s u → IsWithPushed (u.pushed.items ++ push.client_clock ∷ []) u t
     → between.last ≡ room.last → tree_of between ≡ tree_of room → Keeps state.first (entry ∷ state.history) between.history.kept
     → between.sessions ≡ with_at key t (with_at key u room.sessions)
@@ -80,12 +80,12 @@ taken schemas state room between after key s u t push entry h at is by says with
       last = last ∙ h.last;
       history = keeps;
       sessions = subst (Holds pushed) (sym sessions) table;
-      says = subst (λ tree. HasOwnActions (plain tree) (entry ∷ state.history)) (sym schema) (says, h.says);
+      says = subst (λ tree. HasOwnActions (decided tree) (entry ∷ state.history)) (sym schema) (says, h.says);
     } in
     subst (λ r. Follows r handled.Taken after) (sym is) (record { reply = refl; room = ends pushed agrees })
 
 -- what the entry of a push that is taken says
-pub by_push : {F : Type 0} (schemas : Schemas F) (member : Member) (m : Pairs) (push : Push) (entry : Entry) → entry ≡ entry_of schemas member m push
+pub by_push : (schemas : Schemas) (member : Member) (m : Pairs) (push : Push) (entry : Entry) → entry ≡ entry_of schemas member m push
     → IsByPush member.session push.client_clock entry
 by_push schemas member m push entry is = record {
   author = record { session = member.session; client_clock = push.client_clock; action = action_of member.plan push.diff (document_part schemas member m push.diff) };
@@ -94,12 +94,12 @@ by_push schemas member m push entry is = record {
   clock = refl;
 }
 
-pub push_says : {F : Type 0} (tree : SchemaTree) (clients : ℕ → ClientSchema F) (member : Member) (m : Pairs) (push : Push) (entry : Entry) → HasPresences tree
-    → AreRising push.diff → is_taken (decided tree clients) member push ≡ true → entry ≡ entry_of (decided tree clients) member m push
-    → (author : Author) → entry.author ≡ Some author → IsActionOf (document_ops (plain tree) entry.diff) author.action
-push_says tree clients member m push entry presences rising taken is =
-    subst (λ e. (author : Author) → e.author ≡ Some author → IsActionOf (document_ops (plain tree) e.diff) author.action) (sym is)
-    (push_acts (plain tree) (lawful tree presences) member m push rising taken).action
+pub push_says : (tree : SchemaTree) (member : Member) (m : Pairs) (push : Push) (entry : Entry) → HasPresences tree
+    → AreRising push.diff → is_taken (decided tree) member push ≡ true → entry ≡ entry_of (decided tree) member m push
+    → (author : Author) → entry.author ≡ Some author → IsActionOf (document_ops (decided tree) entry.diff) author.action
+push_says tree member m push entry presences rising taken is =
+    subst (λ e. (author : Author) → e.author ≡ Some author → IsActionOf (document_ops (decided tree) e.diff) author.action) (sym is)
+    (push_acts (decided tree) (lawful tree presences) member m push rising taken).action
 
 -- a session that isn't ended, by the arms of a match
 pub not_ended : (phase : Phase) → ((reason : EndReason) (told : Bool) → phase ≡ Ended reason told → ⊥) → is_over (phase_of phase) ≡ false
@@ -109,7 +109,7 @@ not_ended (Live sent plan) h = refl
 not_ended (Ended reason told) h = absurd (h reason told refl)
 
 -- the reply to its message
-pub handles : {F : Type 0} (schemas : Schemas F) (state : model.Room) (room after : Room) (key number : ℕ) (s : Session) → Stands state room → get room.sessions.present key ≡ Some s
+pub handles : (schemas : Schemas) (state : model.Room) (room after : Room) (key number : ℕ) (s : Session) → Stands state room → get room.sessions.present key ≡ Some s
     → s.number ≡ number → is_over (phase_of s.phase) ≡ false → (said read : ClientMessage) (reply : Handled) → read ≡ said
     → Follows (model.after_unended schemas s.number (session_of s) state said) reply after → Replies (model.after_message schemas state number read) reply after
 handles schemas state room after key number s h at is unended said read reply same follows =

@@ -12,10 +12,11 @@ use Rattle.room_model.proofs.CallLemmas.{Step, enters, message_step, drain_step,
 use Rattle.room_model.proofs.ClockLemmas.{step_near, new_near}
 use Rattle.room_model.specs.declared.handled.Handled.{Handled}
 use Rattle.room_model.specs.declared.handled.Handled.TheVariants as handled
+use Rattle.room_schemas.specs.Decided.{decided}
 use Rattle.room_history.specs.Keeps.{Keeps}
 use Rattle.room_history.specs.declared.kept.Kept.{Kept}
 use Rattle.room_history.specs.declared.removal.Removal.{Removal}
-use Rattle.room_messages.specs.Told.{plain, HasOwnActions}
+use Rattle.room_messages.specs.Told.{HasOwnActions}
 use Rattle.sync_msgs.specs.declared.client_message.ClientMessage.{ClientMessage}
 use Rattle.sync_msgs.specs.declared.end_reason.EndReason.{EndReason}
 use Rattle.sync_msgs.specs.declared.out.Out.{Out}
@@ -70,9 +71,9 @@ module _ (state : model.Room) (room after : Room) (key : ℕ) (s : Session) (h :
     (b : Bool) (present : b ≡ model.is_present s.number state) (last : after.last ≡ room.last)
     (schema : tree_of after ≡ tree_of room)
     (keeps : Keeps state.first (after_removal b s.number state.history) after.history.kept) where
-  removal_says : HasOwnActions (plain (tree_of after)) (after_removal b s.number state.history)
-  removal_says = subst (λ tree. HasOwnActions (plain tree) (after_removal b s.number state.history)) (sym schema)
-      (elim b as (λ b. HasOwnActions (plain (tree_of room)) (after_removal b s.number state.history)) [ true ↦ (λ author is. absurd (cc), h.says) | false ↦ h.says ])
+  removal_says : HasOwnActions (decided (tree_of after)) (after_removal b s.number state.history)
+  removal_says = subst (λ tree. HasOwnActions (decided tree) (after_removal b s.number state.history)) (sym schema)
+      (elim b as (λ b. HasOwnActions (decided (tree_of room)) (after_removal b s.number state.history)) [ true ↦ (λ author is. absurd (cc), h.says) | false ↦ h.says ])
 
   others : (other : ℕ) (u : Session) → IsKept state.history u → IsKept (after_removal b s.number state.history) u
   others other u kept = removal_keeps b s.number state.history u kept
@@ -110,7 +111,7 @@ left_ended state room after key s h at last kept updates fewer entered = record 
   history = subst (Keeps state.first state.history) (sym kept) h.history;
   sessions = removed state room.sessions h.sessions key s at (record (session_of s) { phase = model.gone }) refl after.sessions updates
       state.history (λ other u differs found. h.sessions.kept other u found) fewer entered;
-  says = subst (λ kept. HasOwnActions (plain (schema_tree kept.schema)) state.history) (sym kept) h.says;
+  says = subst (λ kept. HasOwnActions (decided (schema_tree kept.schema)) state.history) (sym kept) h.says;
 }
 
 -- the session under a key becomes another
@@ -120,10 +121,10 @@ changes state room after key s t h at same kept is = record {
   last = is.last ∙ h.last;
   history = subst (λ r. Keeps state.first state.history r.kept) (sym is.history) h.history;
   sessions = subst (Holds (model.with_session s.number (session_of t) state)) (sym is.sessions) (changed state room.sessions h.sessions key s at t same kept);
-  says = subst (λ r. HasOwnActions (plain (schema_tree r.kept.schema)) state.history) (sym is.history) h.says;
+  says = subst (λ r. HasOwnActions (decided (schema_tree r.kept.schema)) state.history) (sym is.history) h.says;
 }
 
-module _ {F : Type 0} (schemas : Schemas F) (state : model.Room) (room after : Room) (key : ℕ) (s : Session) (h : Stands state room) (at : get room.sessions.present key ≡ Some s) where
+module _ (schemas : Schemas) (state : model.Room) (room after : Room) (key : ℕ) (s : Session) (h : Stands state room) (at : get room.sessions.present key ≡ Some s) where
   -- a message of a session that isn't ended
   unended_in : (said : ClientMessage) (phase : Phase) → is_over (phase_of phase) ≡ false
       → model.after_message_in schemas s.number (session_of s) state said (phase_of phase) ≡ model.after_unended schemas s.number (session_of s) state said
@@ -167,13 +168,13 @@ module _ {F : Type 0} (schemas : Schemas F) (state : model.Room) (room after : R
 
 -- a room that a session entered, or left
 pub entered_near : (tree : SchemaTree) (state : model.Room) (readonly : Bool) → AreSentNear state → AreSentNear (model.after_enter readonly state)
-entered_near tree state readonly h = step_near (plain tree) None state _ (enters readonly refl refl) h
+entered_near tree state readonly h = step_near (decided tree) None state _ (enters readonly refl refl) h
 
 pub left_there : (tree : SchemaTree) (state : model.Room) (room after : Room) (key : ℕ) (s : Session) → Stands state room → get room.sessions.present key ≡ Some s
     → Agrees (model.leave s.number (session_of s) state) after → Leaves (model.after_leave state s.number) after
 left_there tree state room after key s h at agrees =
     let it = ap (option_map (λ session. model.leave s.number session state)) (session_there state room key s h.agrees at) in
-    subst (λ o. Leaves o after) (sym it) (record { agrees = agrees; near = step_near (plain tree) None state _ (leave_step (plain tree) state s.number _ it) h.near })
+    subst (λ o. Leaves o after) (sym it) (record { agrees = agrees; near = step_near (decided tree) None state _ (leave_step (decided tree) state s.number _ it) h.near })
 
 -- a session is refused, and those that have become too slow by that are ended
 pub refuses : (state : model.Room) (number : ℕ) (session : model.Session) (reason : EndReason) (after : Room) (b : Bool) → b ≡ model.is_present number state

@@ -95,7 +95,7 @@ unended_message (Asked request said plan) n is = refl
 unended_message (Live sent plan) n is = refl
 unended_message (Ended reason told) n is = absurd (cc)
 
-module _ {F : Type 0} (schemas : Schemas F) (state : model.Room) (room after : Room) (key : ℕ) (s : Session) (h : Stands state room) (at : get room.sessions.present key ≡ Some s) where
+module _ (schemas : Schemas) (state : model.Room) (room after : Room) (key : ℕ) (s : Session) (h : Stands state room) (at : get room.sessions.present key ≡ Some s) where
   abbrev ponged : model.Given
   ponged = record { out = out.Message reply.Pong; notice = model.pong; after = record (session_of s) { pings = s.pings - 1 } }
 
@@ -194,7 +194,7 @@ sent_message room after key s t o said clock is now with changed =
 pub sent_nothing : (room after : Room) (key : ℕ) (s : Session) (o : Option ServerMessage) → None ≡ o → after ≡ room → Sends o key s None room after
 sent_nothing room after key s o is same = subst (λ o. Sends o key s None room after) is (refl, same)
 
-module _ {F : Type 0} (schemas : Schemas F) (state : model.Room) (room after : Room) (key number : ℕ) (s : Session) (h : Stands state room) (at : get room.sessions.present key ≡ Some s)
+module _ (schemas : Schemas) (state : model.Room) (room after : Room) (key number : ℕ) (s : Session) (h : Stands state room) (at : get room.sessions.present key ≡ Some s)
     (is : s.number ≡ number) where
   pub drains_end : (next : Next) (reason : EndReason) (told : Bool) (given : Option Out) → IsNext s next → next ≡ End reason told
       → (told ≡ true → (given ≡ None) × (after ≡ room))

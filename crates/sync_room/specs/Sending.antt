@@ -38,7 +38,7 @@ abbrev pub member_in : ℕ → model.Session → Plan → Member
 member_in number session plan = record { session = number; readonly = session.readonly; plan = plan }
 
 -- the answer to a session's connect, or what happened since the last message to it, if anything
-abbrev pub message_in : {F : Type 0} → Schemas F → model.Room → ℕ → model.Session → model.Phase → Option ServerMessage
+abbrev pub message_in : Schemas → model.Room → ℕ → model.Session → model.Phase → Option ServerMessage
 message_in schemas room number session model.new = None
 message_in schemas room number session (model.asked request reached plan) =
     Some (snapshot schemas (member_in number session plan) request reached room.first room.history)

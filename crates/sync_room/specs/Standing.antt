@@ -6,8 +6,9 @@ use Rattle.schema_core.specs.Tree.{SchemaTree}
 use Rattle.room_model.specs.Rooms as model
 use Rattle.room_model.specs.Reachable.{is_over, AreSentNear}
 use Rattle.room_model.specs.declared.handled.Handled.{Handled}
+use Rattle.room_schemas.specs.Decided.{decided}
 use Rattle.room_history.specs.Keeps.{Keeps}
-use Rattle.room_messages.specs.Told.{plain, HasOwnActions}
+use Rattle.room_messages.specs.Told.{HasOwnActions}
 use Rattle.room_model.specs.Accepting.{Push}
 use Rattle.room_model.specs.Schemas.{Schemas}
 use Rattle.room_model.specs.declared.handled.Handled.TheVariants.{Taken}
@@ -30,7 +31,7 @@ pub record Agrees (state : model.Room) (room : Room) : Type 0 where
   pub history : Keeps state.first state.history room.history.kept
   pub sessions : Holds state room.sessions
   -- each entry of a push says what was accepted
-  pub says : HasOwnActions (plain (tree_of room)) state.history
+  pub says : HasOwnActions (decided (tree_of room)) state.history
 
 -- and none of those is further behind than it may be, as in every room that calls make
 pub record Stands (state : model.Room) (room : Room) : Type 0 where
@@ -69,7 +70,7 @@ pub record IsFirstSlow (state : model.Room) (room : Room) (key : ℕ) : Type 0 w
   pub first : model.first_slow state ≡ Some session.number
 
 -- what is accepted of a push of a session makes its entry, by which the room goes on, or the session is refused for a reason
-abbrev pub Judges : {F : Type 0} → Schemas F → model.Room → Session → Push → Result Accepted EndReason → Type 0
+abbrev pub Judges : Schemas → model.Room → Session → Push → Result Accepted EndReason → Type 0
 Judges schemas state s push (Ok accepted) =
     (model.after_push schemas s.number (session_of s) push state (phase_of s.phase) ≡ record { reply = Taken; room = model.after_entry accepted.entry state })
     × IsByPush s.number push.client_clock accepted.entry

@@ -4,7 +4,6 @@ ghost use Rattle.slab.specs.Slab.{ContainsKey, get};
 ghost use Rattle.room_model.specs.Histories.{changed_after};
 ghost use Rattle.room_model.specs.Rooms as model;
 ghost use Rattle.room_model.specs.Rooms.{next_for, session_at};
-ghost use Rattle.room_model.specs.Schemas.{ClientSchema};
 ghost use Rattle.room_schemas.specs.Decided.{decided};
 ghost use Rattle.sync_msgs.specs.declared.out.Out.TheVariants as out;
 ghost use Rattle.sync_room.specs.Sending.{told_since, message_in, IsNext, IsChanged, Sends};
@@ -27,21 +26,21 @@ impl Room {
     /// or what happened since the last message. `None` exactly if there is nothing.
     ///
     /// It costs what it gives. If it tells what changed since a clock, it counts at most a step for
-    /// each id whose last entry lies above that clock, and one more. `F` is the fault of an edit,
-    /// which contracts alone name.
+    /// each id whose last entry lies above that clock, and one more.
     ///
     /// # Errors
     ///
     /// Memory was refused; the room is as it was.
-    pub fn drain<F: Drop, L: Ledger>(
+    pub fn drain<L: Ledger>(
         &mut self,
         alloc: Global,
         session: SessionId,
         steps: &mut Steps<L>,
     ) -> Mem<Option<Out>>
         requires { IsIn session self.old.sessions }
-        ensures step { IfOk result (λ given. (clients : ℕ → ClientSchema F) (state : model.Room) → Stands state self.old
-            → Drains state session.number (next_for (decided (tree_of self.old) clients) state session.number) given self.new) }
+        ensures step { IfOk result (λ given. (state : model.Room) → Stands state self.old
+            → Drains state session.number
+            (next_for (decided (tree_of self.old)) state session.number) given self.new) }
         ensures ticks { IfOk result (λ given. (state : model.Room) (s : model.Session) (clock : ℕ)
             → Stands state self.old → session_at session.number state ≡ Some s → told_since state s.phase ≡ Some clock
             → steps.new ≤ steps.old + (length (changed_after clock state.history) + 1)) }
@@ -54,7 +53,7 @@ impl Room {
         match next_kind(self.sessions.at(session)) {
             Next::End(reason, told) => Ok(self.tell_end(session.key, reason, told)),
             Next::Pong => Ok(Some(self.pong(session.key))),
-            Next::Message => self.send::<F, L>(alloc, session.key, steps),
+            Next::Message => self.send(alloc, session.key, steps),
         }
     }
 
@@ -91,16 +90,17 @@ impl Room {
     }
 
     // Sends a session the answer to its connect, or what happened since the last message.
-    fn send<F: Drop, L: Ledger>(
+    fn send<L: Ledger>(
         &mut self,
         alloc: Global,
         key: usize,
         steps: &mut Steps<L>,
     ) -> Mem<Option<Out>>
         requires { ContainsKey self.old.sessions.present key }
-        ensures step { IfOk result (λ given. (clients : ℕ → ClientSchema F) (state : model.Room) (s : Session)
+        ensures step { IfOk result (λ given. (state : model.Room) (s : Session)
             → Stands state self.old → IsUnended key s self.old
-            → Sends (message_in (decided (tree_of self.old) clients) state s.number (session_of s) (phase_of s.phase)) key s given self.old self.new) }
+            → Sends (message_in (decided (tree_of self.old)) state s.number (session_of s)
+            (phase_of s.phase)) key s given self.old self.new) }
         ensures ticks { IfOk result (λ given. (state : model.Room) (s : Session) (clock : ℕ)
             → Stands state self.old → IsUnended key s self.old → told_since state (phase_of s.phase) ≡ Some clock
             → steps.new ≤ steps.old + (length (changed_after clock state.history) + 1)) }
@@ -108,7 +108,7 @@ impl Room {
         ensures others { (other : SessionId) → IsIn other self.old.sessions → IsIn other self.new.sessions }
         ensures schema { tree_of self.new ≡ tree_of self.old }
     {
-        match self.message::<F, L>(alloc, key, steps)? {
+        match self.message(alloc, key, steps)? {
             Some(message) => {
                 self.sessions.reach(key, self.history.clock());
                 Ok(Some(Out::Message(message)))
@@ -119,16 +119,17 @@ impl Room {
 
     // The answer to the connect of a session, or what happened since the last message to it, if
     // anything.
-    fn message<F: Drop, L: Ledger>(
+    fn message<L: Ledger>(
         &self,
         alloc: Global,
         key: usize,
         steps: &mut Steps<L>,
     ) -> Mem<Option<ServerMessage>>
         requires { ContainsKey self.now.sessions.present key }
-        ensures said { IfOk result (λ said. (clients : ℕ → ClientSchema F) (state : model.Room) (s : Session)
+        ensures said { IfOk result (λ said. (state : model.Room) (s : Session)
             → Stands state self.now → get self.now.sessions.present key ≡ Some s
-            → said ≡ message_in (decided (tree_of self.now) clients) state s.number (session_of s) (phase_of s.phase)) }
+            → said ≡ message_in (decided (tree_of self.now)) state s.number (session_of s)
+            (phase_of s.phase)) }
         ensures ticks { IfOk result (λ said. (state : model.Room) (s : Session) (clock : ℕ)
             → Stands state self.now → get self.now.sessions.present key ≡ Some s → told_since state (phase_of s.phase) ≡ Some clock
             → steps.new ≤ steps.old + (length (changed_after clock state.history) + 1)) }
@@ -141,14 +142,7 @@ impl Room {
                 plan,
             } => {
                 let member = member(session, plan);
-                let said = snapshot::<F, L>(
-                    alloc,
-                    &self.history,
-                    member,
-                    request,
-                    *reached,
-                    steps,
-                )?;
+                let said = snapshot(alloc, &self.history, member, request, *reached, steps)?;
                 Ok(Some(said))
             }
             Phase::Live { sent, plan } => {
@@ -156,14 +150,7 @@ impl Room {
                     return Ok(None);
                 }
                 let member = member(session, plan);
-                let said = updates::<F, L>(
-                    alloc,
-                    &self.history,
-                    member,
-                    *sent,
-                    &session.pushed,
-                    steps,
-                )?;
+                let said = updates(alloc, &self.history, member, *sent, &session.pushed, steps)?;
                 Ok(Some(said))
             }
             _ => Ok(None),

@@ -4,7 +4,6 @@ ghost use Rattle.rooms_val.specs.Maps.{AreRising};
 ghost use Rattle.room_model.specs.Accepting.{pushed_diff};
 ghost use Rattle.room_model.specs.Rooms as model;
 ghost use Rattle.room_model.specs.Rooms.{Ask, after_message, after_connect, after_push, after_ping, protocol_fault};
-ghost use Rattle.room_model.specs.Schemas.{ClientSchema};
 ghost use Rattle.room_schemas.specs.Decided.{decided};
 ghost use Rattle.room_accept.specs.Pushes.{push_of};
 ghost use Rattle.room_accept.specs.Suiting.{Suits};
@@ -28,12 +27,12 @@ use sync_msgs::{ClientMessage, EndReason};
 impl Room {
     /// Takes a message of a session that is in the room, and tells what became of it. It costs what
     /// the message says, a logarithm of the records for each id of its diff, and a pass over the
-    /// sessions. `F` is the fault of an edit, which contracts alone name.
+    /// sessions.
     ///
     /// # Errors
     ///
     /// Memory was refused; the room is as it was.
-    pub fn handle<F: Drop, L: Ledger>(
+    pub fn handle<L: Ledger>(
         &mut self,
         alloc: Global,
         session: SessionId,
@@ -41,8 +40,9 @@ impl Room {
         steps: &mut Steps<L>,
     ) -> Mem<Handled>
         requires { IsIn session self.old.sessions }
-        ensures step { IfOk result (λ reply. (clients : ℕ → ClientSchema F) (state : model.Room) → Stands state self.old
-            → Replies (after_message (decided (tree_of self.old) clients) state session.number message.now) reply self.new) }
+        ensures step { IfOk result (λ reply. (state : model.Room) → Stands state self.old
+            → Replies (after_message (decided (tree_of self.old)) state session.number message.now)
+            reply self.new) }
         ensures err { OnErr result ((state : model.Room) → Stands state self.old → Stands state self.new) }
 
         // Whoever was in the room still is, and the schema stays.
@@ -58,7 +58,7 @@ impl Room {
                 last_server_clock,
                 protocol_version,
                 schema,
-            } => self.connect::<F>(
+            } => self.connect(
                 alloc,
                 session.key,
                 connect_request_id,
@@ -76,14 +76,14 @@ impl Room {
                     diff,
                     presence,
                 };
-                self.push::<F, L>(alloc, session.key, push, steps)
+                self.push(alloc, session.key, push, steps)
             }
             ClientMessage::Ping => Ok(self.ping(session.key)),
         }
     }
 
     // A session asks to be connected, or is refused.
-    fn connect<F: Drop>(
+    fn connect(
         &mut self,
         alloc: Global,
         key: usize,
@@ -93,10 +93,11 @@ impl Room {
         versions: &Serialized,
     ) -> Mem<Handled>
         requires { ContainsKey self.old.sessions.present key }
-        ensures step { IfOk result (λ reply. (clients : ℕ → ClientSchema F) (state : model.Room) (s : Session)
+        ensures step { IfOk result (λ reply. (state : model.Room) (s : Session)
             → Agrees state self.old → IsUnended key s self.old
             → let ask : Ask = record { request = request.now; reached = reached; protocol = protocol; versions = versions.now } in
-            Follows (after_connect (decided (tree_of self.old) clients) s.number (session_of s) ask state (phase_of s.phase)) reply self.new) }
+            Follows (after_connect (decided (tree_of self.old)) s.number (session_of s) ask state
+            (phase_of s.phase)) reply self.new) }
         ensures err { OnErr result (self.new ≡ self.old) }
         ensures others { (other : SessionId) → IsIn other self.old.sessions → IsIn other self.new.sessions }
         ensures schema { tree_of self.new ≡ tree_of self.old }
@@ -122,7 +123,7 @@ impl Room {
     }
 
     // A live session pushes; any other is ended.
-    fn push<F: Drop, L: Ledger>(
+    fn push<L: Ledger>(
         &mut self,
         alloc: Global,
         key: usize,
@@ -130,14 +131,15 @@ impl Room {
         steps: &mut Steps<L>,
     ) -> Mem<Handled>
         requires { ContainsKey self.old.sessions.present key }
-        ensures step { IfOk result (λ reply. (clients : ℕ → ClientSchema F) (state : model.Room) (s : Session)
+        ensures step { IfOk result (λ reply. (state : model.Room) (s : Session)
             → Agrees state self.old → IsUnended key s self.old
-            → Follows (after_push (decided (tree_of self.old) clients) s.number (session_of s) (push_of push.entry) state (phase_of s.phase)) reply self.new) }
+            → Follows (after_push (decided (tree_of self.old)) s.number (session_of s)
+            (push_of push.entry) state (phase_of s.phase)) reply self.new) }
         ensures err { OnErr result ((state : model.Room) → Agrees state self.old → Agrees state self.new) }
         ensures others { (other : SessionId) → IsIn other self.old.sessions → IsIn other self.new.sessions }
         ensures schema { tree_of self.new ≡ tree_of self.old }
     {
-        match self.judge::<F>(alloc, key, push)? {
+        match self.judge(alloc, key, push)? {
             Ok(accepted) => {
                 self.sessions.reserve_push(key)?;
                 self.history.append(alloc, accepted, steps)?;
@@ -150,16 +152,11 @@ impl Room {
     }
 
     // What is accepted of a push of a session, or why the session is to be ended.
-    fn judge<F: Drop>(
-        &self,
-        alloc: Global,
-        key: usize,
-        push: Push<'_>,
-    ) -> Mem<Result<Accepted, EndReason>>
+    fn judge(&self, alloc: Global, key: usize, push: Push<'_>) -> Mem<Result<Accepted, EndReason>>
         requires { ContainsKey self.now.sessions.present key }
-        ensures judged { IfOk result (λ judged. (clients : ℕ → ClientSchema F) (state : model.Room) (s : Session)
+        ensures judged { IfOk result (λ judged. (state : model.Room) (s : Session)
             → Agrees state self.now → get self.now.sessions.present key ≡ Some s
-            → Judges (decided (tree_of self.now) clients) state s (push_of push.entry) judged) }
+            → Judges (decided (tree_of self.now)) state s (push_of push.entry) judged) }
         ensures suits { IfOk result (λ judged. IfOk judged (Suits (tree_of self.now) self.now.history.kept.records.0)) }
         ensures below { IfOk result (λ judged. OnOk judged (self.now.history.kept.clock <ℤ pos (2 ^ 53))) }
     {
@@ -172,7 +169,7 @@ impl Room {
         }
         ids_rise(push.diff);
         let member = member(session, plan);
-        match self.history.accept::<F>(alloc, member, push)? {
+        match self.history.accept(alloc, member, push)? {
             Some(accepted) => Ok(Ok(accepted)),
             None => Ok(Err(EndReason::InvalidRecord)),
         }

@@ -13,13 +13,13 @@ use Rattle.sync_room.proofs.TableLemmas.{stays_in, some_there}
 use Rattle.sync_room.proofs.room.Room.connect.Goals as goal
 
 pub returns-in_ok-copy-in-Ok-clause-step : goal.returns-in_ok-copy-in-Ok-clause-step
-returns-in_ok-copy-in-Ok-clause-step g c = λ clients state s h at.
+returns-in_ok-copy-in-Ok-clause-step c = λ state s h at.
     let same : c.index.result.now ≡ s = let here = c.index.ensures in let found = at.here in cc in
     let new = ap (λ s. is_new s.phase) (sym same) ∙ sym c.is_new.ensures ∙ c.if-not-is_new.false in
     let right = sym (c.protocol_fault.ensures ∙ ap model.protocol_fault (to_z-of_z w64 c.args.protocol c.ranges.protocol)) ∙ c.in_default.is in
     let planned : Ok (plan_of c.in-Ok.plan) ≡ plan_for (tree_of c.args.self.now) c.args.versions.now =
     ap (result_map_both plan_of (λ reason. reason)) (sym c.in-Ok.is) ∙ c.in_ok-plan.ensures ∙ ap (λ s. plan_for (schema_tree s) c.args.versions.now) c.schema.ensures.schema in
-    asks (decided (tree_of c.args.self.now) clients) state c.args.self.now _ c.args.key s
+    asks (decided (tree_of c.args.self.now)) state c.args.self.now _ c.args.key s
     (record { request = c.args.request.now; reached = c.args.reached; protocol = c.args.protocol; versions = c.args.versions.now }) c.in-Ok.plan h at.here new right planned
     (record {
       last = refl;
@@ -30,6 +30,6 @@ returns-in_ok-copy-in-Ok-clause-step g c = λ clients state s h at.
     })
 
 pub returns-in_ok-copy-in-Ok-clause-others : goal.returns-in_ok-copy-in-Ok-clause-others
-returns-in_ok-copy-in-Ok-clause-others g c =
+returns-in_ok-copy-in-Ok-clause-others c =
     let s = some_there _ c.requires in
     stays_in c.args.self.now.sessions c.set_phase.new.self c.args.key s.0 _ s.1 refl (c.set_phase.ensures s.0 s.1)

@@ -10,28 +10,28 @@ use Rattle.sync_room.proofs.SendLemmas.{drains_end, drains_pong, drains_message,
 use Rattle.sync_room.proofs.room.Room.drain.Goals as goal
 
 pub returns-in-End-clause-step : goal.returns-in-End-clause-step
-returns-in-End-clause-step g c = λ clients state h.
+returns-in-End-clause-step g c = λ state h.
     let same : c.requires.0 ≡ c.at.result.now = let here = c.at.ensures in let there = c.requires.1 in cc in
     let number = ap (λ s. s.number) (sym same) ∙ c.requires.2 in
-    drains_end (decided (tree_of c.args.self.now) clients) state c.args.self.now _ c.args.session.key c.args.session.number c.at.result.now h c.at.ensures number
+    drains_end (decided (tree_of c.args.self.now)) state c.args.self.now _ c.args.session.key c.args.session.number c.at.result.now h c.at.ensures number
     c.next_kind.result c.in-End.reason c.in-End.told c.tell_end.result c.next_kind.ensures c.in-End.is
     c.tell_end.ensures.told (λ b. c.tell_end.ensures.untold b c.at.result.now c.at.ensures)
 
 pub returns-in-Pong-clause-step : goal.returns-in-Pong-clause-step
-returns-in-Pong-clause-step g c = λ clients state h.
+returns-in-Pong-clause-step g c = λ state h.
     let same : c.requires.0 ≡ c.at.result.now = let here = c.at.ensures in let there = c.requires.1 in cc in
     let number = ap (λ s. s.number) (sym same) ∙ c.requires.2 in
-    drains_pong (decided (tree_of c.args.self.now) clients) state c.args.self.now _ c.args.session.key c.args.session.number c.at.result.now h c.at.ensures number
+    drains_pong (decided (tree_of c.args.self.now)) state c.args.self.now _ c.args.session.key c.args.session.number c.at.result.now h c.at.ensures number
     c.next_kind.result c.pong.result c.next_kind.ensures c.in-Pong.is c.pong.ensures.pong (c.pong.ensures.fewer c.at.result.now c.at.ensures)
 
 pub returns-in-Message-clause-step : goal.returns-in-Message-clause-step
 returns-in-Message-clause-step g c =
-    if_ok c.send.result _ _ c.send.ensures.step (λ given step clients state h.
+    if_ok c.send.result _ _ c.send.ensures.step (λ given step state h.
     let same : c.requires.0 ≡ c.at.result.now = let here = c.at.ensures in let there = c.requires.1 in cc in
     let number = ap (λ s. s.number) (sym same) ∙ c.requires.2 in
     let unended = unended_message c.at.result.now.phase c.at.result.now.pings (subst (IsNext c.at.result.now) c.in-Message.is c.next_kind.ensures) in
-    drains_message (decided (tree_of c.args.self.now) clients) state c.args.self.now _ c.args.session.key c.args.session.number c.at.result.now h c.at.ensures number
-    c.next_kind.result given c.next_kind.ensures c.in-Message.is (step clients state c.at.result.now h (record { here = c.at.ensures; unended = unended })))
+    drains_message (decided (tree_of c.args.self.now)) state c.args.self.now _ c.args.session.key c.args.session.number c.at.result.now h c.at.ensures number
+    c.next_kind.result given c.next_kind.ensures c.in-Message.is (step state c.at.result.now h (record { here = c.at.ensures; unended = unended })))
 
 pub returns-in-Message-clause-ticks : goal.returns-in-Message-clause-ticks
 returns-in-Message-clause-ticks g c =

@@ -10,7 +10,7 @@ use Rattle.sync_room.proofs.room.Room.handle.Goals as goal
 
 pub returns-in-Connect-clause-step : goal.returns-in-Connect-clause-step
 returns-in-Connect-clause-step g c =
-    if_ok c.connect.result _ _ c.connect.ensures.step (λ reply step clients state h.
+    if_ok c.connect.result _ _ c.connect.ensures.step (λ reply step state h.
     let s = c.at.result.now in
     let same : c.requires.0 ≡ s = let here = c.at.ensures in let there = c.requires.1 in cc in
     let number = ap (λ s. s.number) (sym same) ∙ c.requires.2 in
@@ -18,8 +18,8 @@ returns-in-Connect-clause-step g c =
     let reached_fits : SFits w64 c.in-Connect.last_server_clock = search rules in
     let protocol_fits : SFits w64 c.in-Connect.protocol_version = search rules in
     let follows = rw (to_z-of_z w64 c.in-Connect.last_server_clock reached_fits, to_z-of_z w64 c.in-Connect.protocol_version protocol_fits)
-    at (step clients state s h.agrees (record { here = c.at.ensures; unended = unended })) in
-    handles (decided (tree_of c.args.self.now) clients) state c.args.self.now c.connect.new.self c.args.session.key c.args.session.number s h c.at.ensures number unended
+    at (step state s h.agrees (record { here = c.at.ensures; unended = unended })) in
+    handles (decided (tree_of c.args.self.now)) state c.args.self.now c.connect.new.self c.args.session.key c.args.session.number s h c.at.ensures number unended
     _ c.args.message.now reply c.in-Connect.is follows)
 
 pub returns-in-Connect-clause-err : goal.returns-in-Connect-clause-err
@@ -27,24 +27,24 @@ returns-in-Connect-clause-err g c = on_err_map c.connect.result _ _ c.connect.en
 
 pub returns-in-Push-clause-step : goal.returns-in-Push-clause-step
 returns-in-Push-clause-step g c =
-    if_ok c.push.result _ _ c.push.ensures.step (λ reply step clients state h.
+    if_ok c.push.result _ _ c.push.ensures.step (λ reply step state h.
     let s = c.at.result.now in
     let same : c.requires.0 ≡ s = let here = c.at.ensures in let there = c.requires.1 in cc in
     let number = ap (λ s. s.number) (sym same) ∙ c.requires.2 in
     let unended = not_ended s.phase c.in_default.not-Ended in
     let fits : SFits w64 c.in-Push.client_clock = search rules in
-    let follows = rw (to_z-of_z w64 c.in-Push.client_clock fits) at (step clients state s h.agrees (record { here = c.at.ensures; unended = unended })) in
-    handles (decided (tree_of c.args.self.now) clients) state c.args.self.now c.push.new.self c.args.session.key c.args.session.number s h c.at.ensures number unended
+    let follows = rw (to_z-of_z w64 c.in-Push.client_clock fits) at (step state s h.agrees (record { here = c.at.ensures; unended = unended })) in
+    handles (decided (tree_of c.args.self.now)) state c.args.self.now c.push.new.self c.args.session.key c.args.session.number s h c.at.ensures number unended
     _ c.args.message.now reply c.in-Push.is follows)
 
 pub returns-in-Push-clause-err : goal.returns-in-Push-clause-err
 returns-in-Push-clause-err g c = on_err_map c.push.result _ _ c.push.ensures.err (λ keeps state h. record { agrees = keeps state h.agrees; near = h.near })
 
 pub returns-in-Ping-clause-step : goal.returns-in-Ping-clause-step
-returns-in-Ping-clause-step g c = λ clients state h.
+returns-in-Ping-clause-step g c = λ state h.
     let s = c.at.result.now in
     let same : c.requires.0 ≡ s = let here = c.at.ensures in let there = c.requires.1 in cc in
     let number = ap (λ s. s.number) (sym same) ∙ c.requires.2 in
     let unended = not_ended s.phase c.in_default.not-Ended in
-    handles (decided (tree_of c.args.self.now) clients) state c.args.self.now c.ping.new.self c.args.session.key c.args.session.number s h c.at.ensures number unended
+    handles (decided (tree_of c.args.self.now)) state c.args.self.now c.ping.new.self c.args.session.key c.args.session.number s h c.at.ensures number unended
     message.Ping c.args.message.now c.ping.result c.in-Ping.is (c.ping.ensures.step state s h.agrees (record { here = c.at.ensures; unended = unended }))

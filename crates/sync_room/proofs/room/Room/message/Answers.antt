@@ -19,24 +19,24 @@ use Rattle.sync_room.proofs.SentLemmas.{sent_kept, sent_near}
 use Rattle.sync_room.proofs.room.Room.message.Goals as goal
 
 pub returns-in_ok-said-in-Asked-clause-said : goal.returns-in_ok-said-in-Asked-clause-said
-returns-in_ok-said-in-Asked-clause-said g c = λ clients state s h at.
+returns-in_ok-said-in-Asked-clause-said g c = λ state s h at.
     let same : c.index-session.result.now ≡ s = let here = c.index-session.ensures in cc in
     let phase = ap (λ s. s.phase) (sym same) ∙ c.in-Asked.is in
-    let schemas = decided (tree_of c.args.self.now) clients in
+    let schemas = decided (tree_of c.args.self.now) in
     let member : Member = member_in s.number (session_of s) (plan_of c.in-Asked.plan) in
     let member_is : member_of c.member-member.result ≡ member =
     same_member (c.member-member.ensures.number ∙ ap (λ s. s.number) same) (c.member-member.ensures.readonly ∙ ap (λ s. s.readonly) same) (ap plan_of c.member-member.ensures.plan) in
     let fits : SFits w64 c.in-Asked.reached = search rules in
-    let said = c.in_ok-said-in-Asked.ensures.message state.first state.history clients h.agrees.history in
+    let said = c.in_ok-said-in-Asked.ensures.message state.first state.history h.agrees.history in
     ap Some (said ∙ ap (λ m. snapshot schemas m c.in-Asked.request (to_z w64 (of_z w64 c.in-Asked.reached)) state.first state.history) member_is
     ∙ ap (λ reached. snapshot schemas member c.in-Asked.request reached state.first state.history) (to_z-of_z w64 c.in-Asked.reached fits))
     ∙ sym (ap (λ phase. message_in schemas state s.number (session_of s) (phase_of phase)) phase)
 
 pub returns-in_ok-said-in-Live-clause-said : goal.returns-in_ok-said-in-Live-clause-said
-returns-in_ok-said-in-Live-clause-said g c = λ clients state s h at.
+returns-in_ok-said-in-Live-clause-said g c = λ state s h at.
     let same : c.index-session.result.now ≡ s = let here = c.index-session.ensures in cc in
     let phase = ap (λ s. s.phase) (sym same) ∙ c.in-Live.is in
-    let schemas = decided (tree_of c.args.self.now) clients in
+    let schemas = decided (tree_of c.args.self.now) in
     let k = nat_abs c.in-Live.sent in
     let member : Member = member_in s.number (session_of s) (plan_of c.in-Live.plan) in
     let number = c.member-member-in-Live.ensures.number ∙ ap (λ s. s.number) same in
@@ -47,7 +47,7 @@ returns-in_ok-said-in-Live-clause-said g c = λ clients state s h at.
     let fits : SFits w64 c.in-Live.sent = search rules in
     let sent = to_z-of_z w64 c.in-Live.sent fits ∙ kept.natural in
     let pushed = c.deref.ensures.value ∙ ap (λ s. s.pushed.items) same ∙ kept.pushes ∙ ap (λ n. own_clocks n (above k state.history)) (sym number) in
-    let said = c.in_ok-said-in-Live.ensures.message state.first state.history clients k h.agrees.history h.agrees.says sent near.0 near.1 pushed in
+    let said = c.in_ok-said-in-Live.ensures.message state.first state.history k h.agrees.history h.agrees.says sent near.0 near.1 pushed in
     let less : k < length state.history =
     let a = kept.natural in let b = h.agrees.history.clock in let d = c.clock.ensures.clock in let e = c.if-clock-sent.false in omega (arith, ints) in
     let behind : nat_lt k (length state.history) ≡ true = grind (arith, nat_tests) in

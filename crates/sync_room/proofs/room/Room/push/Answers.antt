@@ -35,14 +35,14 @@ returns-in_err-append-in-Ok-clause-others g c =
     stays_in c.args.self.now.sessions c.reserve_push.new.self c.args.key s.0 u.0 s.1 (with_number _ s.0 u.0 u.1) u.2
 
 pub returns-in_ok-append-in-Ok-clause-step : goal.returns-in_ok-append-in-Ok-clause-step
-returns-in_ok-append-in-Ok-clause-step g c = λ clients state s h at.
+returns-in_ok-append-in-Ok-clause-step g c = λ state s h at.
     let fits : SFits w64 c.args.push.client_clock = search rules in
-    let judged = subst (λ j. Judges (decided (tree_of c.args.self.now) clients) state s (push_of c.args.push) j) c.in-Ok.is (c.in_ok-accepted.ensures.judged clients state s h at.here) in
+    let judged = subst (λ j. Judges (decided (tree_of c.args.self.now)) state s (push_of c.args.push) j) c.in-Ok.is (c.in_ok-accepted.ensures.judged state s h at.here) in
     let u = c.in_ok-reserve_push-in-Ok.ensures.kept s at.here in
     let there = there_with c.args.self.now.sessions c.reserve_push.new.self c.args.key s u.0 at.here u.2 in
     let t = c.note_push.ensures u.0 there in
     let noting = subst (λ z. IsWithPushed (u.0.pushed.items ++ z ∷ []) u.0 t.0) (to_z-of_z w64 c.args.push.client_clock fits) t.1 in
-    taken (decided (tree_of c.args.self.now) clients) state c.args.self.now _ c.end_slow.new.self c.args.key s u.0 t.0 (push_of c.args.push) c.in-Ok.accepted.entry h at.here
+    taken (decided (tree_of c.args.self.now)) state c.args.self.now _ c.end_slow.new.self c.args.key s u.0 t.0 (push_of c.args.push) c.in-Ok.accepted.entry h at.here
     judged.0 judged.1 judged.2 u.1 noting refl (ap schema_tree c.append.ensures.schema) (c.in_ok-append-in-Ok.ensures.ok state.first state.history h.history)
     (t.2 ∙ ap (with_at c.args.key t.0) u.2) c.end_slow.ensures.ended
 
@@ -56,6 +56,6 @@ returns-in_ok-append-in-Ok-clause-others g c = λ other is.
     c.end_slow.ensures.others other (stays_in c.reserve_push.new.self c.note_push.new.self c.args.key u.0 t.0 there (with_number _ u.0 t.0 t.1) t.2 other reserved)
 
 pub returns-in-Err-clause-step : goal.returns-in-Err-clause-step
-returns-in-Err-clause-step g c = λ clients state s h at.
-    let judged = subst (λ j. Judges (decided (tree_of c.args.self.now) clients) state s (push_of c.args.push) j) c.in-Err.is (c.in_ok-accepted.ensures.judged clients state s h at.here) in
+returns-in-Err-clause-step g c = λ state s h at.
+    let judged = subst (λ j. Judges (decided (tree_of c.args.self.now)) state s (push_of c.args.push) j) c.in-Err.is (c.in_ok-accepted.ensures.judged state s h at.here) in
     subst (λ r. Follows r c.refuse.result c.refuse.new.self) (sym judged) (c.refuse.ensures.refused state s h at)
