@@ -20,7 +20,7 @@ use Rattle.sync_msgs.specs.declared.end_reason.EndReason.{EndReason}
 use Rattle.sync_msgs.specs.declared.end_reason.EndReason.TheVariants.{ClientTooOld, ServerTooOld, InvalidRecord, RoomFull, Slow}
 use Rattle.sync_msgs.specs.declared.server_message.ServerMessage.{ServerMessage}
 use Rattle.sync_msgs.specs.declared.server_message.ServerMessage.TheVariants as message
-use Rattle.room_model.specs.Schemas.{Schemas, ClientSchema, records_with}
+use Rattle.room_model.specs.Schemas.{WorldSchemas, ClientSchema, records_with}
 use Rattle.room_model.specs.Replicas as model
 use Rattle.room_model.specs.Replicas.{Client, Work, with_work, is_open, first_unsent, pending_diffs, push_one, push_none, schema_of, after_end}
 use Rattle.room_model.specs.declared.limits.TheConstants.{MOST_PUSHES}
@@ -47,12 +47,12 @@ use Rattle.sync_peer.specs.Calls.{records_of, shown, others_shown, completion, r
 use Rattle.sync_peer.specs.Standing.{Stands}
 use Rattle.sync_peer.specs.declared.peer.Peer.{Peer}
 
-module _ (schemas : Schemas EditFault) (held : Held) (peer : Peer) (stands : Stands schemas held peer) where
+module _ (schemas : WorldSchemas EditFault) (held : Held) (peer : Peer) (stands : Stands schemas held peer) where
   abbrev decides : IsDecidedBy (schema_tree peer.client.replica.schema) (client_at held.client.version)
   decides = decided_by held.client.version (schema_tree peer.client.replica.schema) stands.known stands.version
 
   schema_is : schema_of schemas held.client ≡ client_at held.client.version
-  schema_is = ap (λ (x : Schemas EditFault). x.client held.client.version) stands.tables.are
+  schema_is = ap (λ (x : WorldSchemas EditFault). x.client held.client.version) stands.tables.are
 
   -- what is decided for the client is what its schema decides
   pub admits_are : (schema_of schemas held.client).admits ≡ admits_of peer.client.replica
@@ -61,14 +61,14 @@ module _ (schemas : Schemas EditFault) (held : Held) (peer : Peer) (stands : Sta
   pub versions_are : (schema_of schemas held.client).versions ≡ newest_versions (schema_tree peer.client.replica.schema).sequences
   versions_are = ap (λ (x : ClientSchema EditFault). x.versions) schema_is ∙ decides.versions
 
-  pub document_is : schemas.is_document ≡ document_of peer.client.replica
+  pub document_is : schemas.room.is_document ≡ document_of peer.client.replica
   document_is =
-      ap (λ (x : Schemas EditFault). x.is_document) stands.tables.are
+      ap (λ (x : WorldSchemas EditFault). x.room.is_document) stands.tables.are
       ∙ same_document stands.tables.room (schema_tree peer.client.replica.schema) stands.tables.version held.client.version stands.tables.at.types stands.version.types
 
-  pub presence_is : schemas.is_presence ≡ presence_of peer.client.replica
+  pub presence_is : schemas.room.is_presence ≡ presence_of peer.client.replica
   presence_is =
-      ap (λ (x : Schemas EditFault). x.is_presence) stands.tables.are
+      ap (λ (x : WorldSchemas EditFault). x.room.is_presence) stands.tables.are
       ∙ same_presence stands.tables.room (schema_tree peer.client.replica.schema) stands.tables.version held.client.version stands.tables.at.types stands.version.types
 
   -- its store has what it shows
@@ -137,7 +137,7 @@ diff_marks [] c = refl
 diff_marks (d ∷ diff) c = refl
 
 -- a peer stands for a client for which such a diff was done
-pub marked : (schemas : Schemas EditFault) (held : Held) (old other : Peer) → Stands schemas held old → (diff : RecordOps) (m : Marks) → other.client.replica.schema ≡ old.client.replica.schema
+pub marked : (schemas : WorldSchemas EditFault) (held : Held) (old other : Peer) → Stands schemas held old → (diff : RecordOps) (m : Marks) → other.client.replica.schema ≡ old.client.replica.schema
     → ((held : Held) → client.Stands records_of held old.client → client.Stands records_of (record held { client = with_diff diff held.client }) other.client) → marks.Stands m other.marks
     → Stands schemas (with_marked diff m held) other
 marked schemas held old other stands diff m schema done is =
@@ -208,7 +208,7 @@ refused (Ok done) answer fault is given = absurd (let no : false ≡ true = is.0
 refused (Err e) answer fault is given = λ other. given (λ same. other (is.1 ∙ same)) ∙ ap Err (sym is.1)
 
 -- a peer still stands for what it stood for where its store has the same records
-pub still_stands : (schemas : Schemas EditFault) (held : Held) (peer : Peer) (store : Seen) → Stands schemas held peer → records_of store ≡ records_of peer.client.replica.store
+pub still_stands : (schemas : WorldSchemas EditFault) (held : Held) (peer : Peer) (store : Seen) → Stands schemas held peer → records_of store ≡ records_of peer.client.replica.store
     → Stands schemas held (record peer { client = record peer.client { replica = record peer.client.replica { store = store } } })
 still_stands schemas held peer store stands same =
     let is = stands.client in

@@ -6,7 +6,7 @@ use Rattle.field_ops.specs.RecordOps.{RecordOps}
 use Rattle.doc_model.specs.Documents.{replay}
 use Rattle.doc_model.specs.Inverses.{inverse_diff}
 use Rattle.doc_model.specs.Marks.{Marks, undo_diff, redo_diff, bail_diff, after_edit, after_undo, after_redo, after_bail}
-use Rattle.room_model.specs.Schemas.{Schemas, records_with}
+use Rattle.room_model.specs.Schemas.{WorldSchemas, records_with}
 use Rattle.room_model.specs.Replicas.{Client, edit, with_work, schema_of, pending_diffs}
 use Rattle.sync_client.specs.Calls.{Held}
 use Rattle.sync_client.specs.declared.fault.PresenceFault.{PresenceFault}
@@ -16,14 +16,14 @@ use Rattle.peer_schemas.specs.Clients.{edit_fault_of}
 use Rattle.undo_marks.specs.declared.fault.BailFault.{BailFault}
 use Rattle.undo_marks.specs.declared.fault.BailFault.TheVariants.{NoMark}
 
-module _ (schemas : Schemas EditFault) (held : Held) where
+module _ (schemas : WorldSchemas EditFault) (held : Held) where
   -- what a client shows: the document of its base, with its pending edits replayed
   abbrev pub shown : Pairs
-  shown = replay (schema_of schemas held.client).admits (records_with schemas.is_document held.base) (pending_diffs held.client)
+  shown = replay (schema_of schemas held.client).admits (records_with schemas.room.is_document held.base) (pending_diffs held.client)
 
   -- the presence of others that it shows
   abbrev pub others_shown : Pairs
-  others_shown = records_with schemas.is_presence held.base
+  others_shown = records_with schemas.room.is_presence held.base
 
   -- what an edit is completed to, or why it is refused
   abbrev pub completion : RecordOps → Result RecordOps EditFault
@@ -69,7 +69,7 @@ with_marked diff marks held = record held { client = with_diff diff (with_marks 
 abbrev pub bail_done : List ℕ → Marks → Result (Unit {0}) BailFault
 bail_done name marks = option_map_or (λ diff. Ok tt) (bail_diff name marks) (Err NoMark)
 
-module _ (schemas : Schemas EditFault) where
+module _ (schemas : WorldSchemas EditFault) where
   -- the inverse of what acts of a diff in what a client shows
   abbrev pub back_of : Held → RecordOps → RecordOps
   back_of held diff = inverse_diff (schema_of schemas held.client).admits (shown schemas held) diff

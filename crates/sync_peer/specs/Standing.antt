@@ -2,7 +2,7 @@
 use Rattle.std.specs.Prelude.{Result, Ok, Err}
 use Rattle.field_ops.specs.RecordOps.{RecordOps}
 use Rattle.schema_core.specs.SchemaOf.{schema_tree}
-use Rattle.room_model.specs.Schemas.{Schemas}
+use Rattle.room_model.specs.Schemas.{WorldSchemas}
 use Rattle.side_effects.specs.declared.fault.EditFault.{EditFault}
 use Rattle.tl_tables.specs.Tables.{IsVersion, IsSchemaAt}
 use Rattle.sync_client.specs.Calls.{Held}
@@ -13,7 +13,7 @@ use Rattle.sync_peer.specs.Calls.{records_of, edited}
 use Rattle.sync_peer.specs.declared.peer.Peer.{Peer}
 
 -- a peer stands for a client with its base, by what the tables decide
-pub record Stands (schemas : Schemas EditFault) (held : Held) (peer : Peer) : Type 0 where
+pub record Stands (schemas : WorldSchemas EditFault) (held : Held) (peer : Peer) : Type 0 where
   pub tables : AreOfTables schemas
   -- its schema is that of the client's version
   pub known : IsVersion held.client.version
@@ -22,6 +22,6 @@ pub record Stands (schemas : Schemas EditFault) (held : Held) (peer : Peer) : Ty
   pub marks : marks.Stands held.client.marks peer.marks
 
 -- a peer stands for a client with a further edit, which was completed
-abbrev pub Edits : Schemas EditFault → Held → Result RecordOps EditFault → Peer → Type 0
+abbrev pub Edits : WorldSchemas EditFault → Held → Result RecordOps EditFault → Peer → Type 0
 Edits schemas held (Ok diff) peer = Stands schemas (edited schemas diff held) peer
 Edits schemas held (Err fault) peer = ⊥

@@ -5,7 +5,7 @@ ghost use Rattle.std.specs.Borrow.{sem};
 ghost use Rattle.rooms_val.specs.Answers.{Gives};
 ghost use Rattle.rooms_val.specs.Maps.{AreRising, value_at, added};
 ghost use Rattle.rooms_val.specs.View.{data_of};
-ghost use Rattle.room_model.specs.Schemas.{Schemas, records_with};
+ghost use Rattle.room_model.specs.Schemas.{WorldSchemas, records_with};
 ghost use Rattle.room_model.specs.Replicas.{schema_of, pending_diffs, new_client, after_cut, after_end};
 ghost use Rattle.room_model.specs.Worlds.{map_val};
 ghost use Rattle.room_model.specs.declared.fault.ConnectFault.TheVariants as connect_fault;
@@ -69,7 +69,8 @@ impl Peer {
     /// `NoSuchVersion` exactly for another version than 1 to 3, or `OutOfMemory`.
     pub fn new(alloc: Global, version: u32) -> Result<Peer, TableFault>
         ensures unknown { IsErrOf result table_fault.NoSuchVersion ↔ (¬ (IsVersion version)) }
-        ensures stands { IfOk result (λ peer. (schemas : Schemas EditFault) → AreOfTables schemas
+        ensures stands { IfOk result (λ peer. (schemas : WorldSchemas EditFault)
+            → AreOfTables schemas
             → Stands schemas (record { base = []; client = new_client version }) peer) }
         ensures unwatched { IfOk result (λ peer. watched peer ≡ []) }
         ensures closed { IfOk result IsClosed }
@@ -93,13 +94,14 @@ impl Peer {
         wanted: &Diff,
         steps: &mut Steps<L>,
     ) -> Result<(), EditFault>
-        ensures fault { (schemas : Schemas EditFault) (held : Held) → Stands schemas held self.old
+        ensures fault { (schemas : WorldSchemas EditFault) (held : Held)
+            → Stands schemas held self.old
             → Gives edit_fault.OutOfMemory
             (λ done. done) result (done_by (completion schemas held wanted.now)) }
-        ensures ok { OnOk result ((schemas : Schemas EditFault) (held : Held)
+        ensures ok { OnOk result ((schemas : WorldSchemas EditFault) (held : Held)
             → Stands schemas held self.old
             → Edits schemas held (completion schemas held wanted.now) self.new) }
-        ensures err { OnErr result ((schemas : Schemas EditFault) (held : Held)
+        ensures err { OnErr result ((schemas : WorldSchemas EditFault) (held : Held)
             → Stands schemas held self.old → Stands schemas held self.new) }
         ensures views { WatchAlike (store_of self.old) (store_of self.new) }
     {
@@ -113,10 +115,10 @@ impl Peer {
 
     /// Makes a mark, to which an undo or a bail goes back. Where memory is refused nothing changes.
     pub fn mark(&mut self, name: Text) -> Mem<()>
-        ensures ok { OnOk result ((schemas : Schemas EditFault) (held : Held)
+        ensures ok { OnOk result ((schemas : WorldSchemas EditFault) (held : Held)
             → Stands schemas held self.old
             → Stands schemas (with_marks (after_mark name held.client.marks) held) self.new) }
-        ensures err { OnErr result ((schemas : Schemas EditFault) (held : Held)
+        ensures err { OnErr result ((schemas : WorldSchemas EditFault) (held : Held)
             → Stands schemas held self.old → Stands schemas held self.new) }
         ensures store { store_of self.new ≡ store_of self.old }
     {
@@ -127,11 +129,11 @@ impl Peer {
     /// empty; what others did since stays. Returns whether there was an edit to take back. It costs what the diff names.
     /// Where memory is refused the peer is as before.
     pub fn undo<L: Ledger>(&mut self, alloc: Global, steps: &mut Steps<L>) -> Mem<bool>
-        ensures answer { IfOk result (λ done. (schemas : Schemas EditFault) (held : Held)
+        ensures answer { IfOk result (λ done. (schemas : WorldSchemas EditFault) (held : Held)
             → Stands schemas held self.old → done ≡ is_some (undo_diff held.client.marks)) }
-        ensures ok { OnOk result ((schemas : Schemas EditFault) (held : Held)
+        ensures ok { OnOk result ((schemas : WorldSchemas EditFault) (held : Held)
             → Stands schemas held self.old → Stands schemas (undone schemas held) self.new) }
-        ensures err { OnErr result ((schemas : Schemas EditFault) (held : Held)
+        ensures err { OnErr result ((schemas : WorldSchemas EditFault) (held : Held)
             → Stands schemas held self.old → Stands schemas held self.new) }
         ensures views { WatchAlike (store_of self.old) (store_of self.new) }
     {
@@ -147,11 +149,11 @@ impl Peer {
     /// empty. Returns whether there was something to do again. It costs what the diff names. Where memory is refused the
     /// peer is as before.
     pub fn redo<L: Ledger>(&mut self, alloc: Global, steps: &mut Steps<L>) -> Mem<bool>
-        ensures answer { IfOk result (λ done. (schemas : Schemas EditFault) (held : Held)
+        ensures answer { IfOk result (λ done. (schemas : WorldSchemas EditFault) (held : Held)
             → Stands schemas held self.old → done ≡ is_some (redo_diff held.client.marks)) }
-        ensures ok { OnOk result ((schemas : Schemas EditFault) (held : Held)
+        ensures ok { OnOk result ((schemas : WorldSchemas EditFault) (held : Held)
             → Stands schemas held self.old → Stands schemas (redone schemas held) self.new) }
-        ensures err { OnErr result ((schemas : Schemas EditFault) (held : Held)
+        ensures err { OnErr result ((schemas : WorldSchemas EditFault) (held : Held)
             → Stands schemas held self.old → Stands schemas held self.new) }
         ensures views { WatchAlike (store_of self.old) (store_of self.new) }
     {
@@ -174,13 +176,14 @@ impl Peer {
         name: &str,
         steps: &mut Steps<L>,
     ) -> Result<(), BailFault>
-        ensures fault { (schemas : Schemas EditFault) (held : Held) → Stands schemas held self.old
+        ensures fault { (schemas : WorldSchemas EditFault) (held : Held)
+            → Stands schemas held self.old
             → Gives bail_fault.OutOfMemory
             (λ done. done) result (bail_done name.now held.client.marks) }
-        ensures ok { OnOk result ((schemas : Schemas EditFault) (held : Held)
+        ensures ok { OnOk result ((schemas : WorldSchemas EditFault) (held : Held)
             → Stands schemas held self.old
             → Stands schemas (bailed schemas name.now held) self.new) }
-        ensures err { OnErr result ((schemas : Schemas EditFault) (held : Held)
+        ensures err { OnErr result ((schemas : WorldSchemas EditFault) (held : Held)
             → Stands schemas held self.old → Stands schemas held self.new) }
         ensures views { WatchAlike (store_of self.old) (store_of self.new) }
     {
@@ -197,14 +200,15 @@ impl Peer {
     /// `WrongScope` exactly where the record's id, which is given, isn't one of a presence; else `Invalid` exactly where the
     /// record isn't admitted under it, with the cause; or `OutOfMemory`. Then the peer is as before.
     pub fn presence(&mut self, alloc: Global, record_: Val) -> Result<(), PresenceFault>
-        ensures fault { (schemas : Schemas EditFault) (held : Held) → Stands schemas held self.old
+        ensures fault { (schemas : WorldSchemas EditFault) (held : Held)
+            → Stands schemas held self.old
             → Gives edit_fault.OutOfMemory
             (λ done. done) (as_edit result) (done_unless (refusal schemas held (data_of record_))) }
-        ensures ok { OnOk result ((schemas : Schemas EditFault) (held : Held)
+        ensures ok { OnOk result ((schemas : WorldSchemas EditFault) (held : Held)
             → Stands schemas held self.old → Stands schemas (record held {
               client = with_presence (data_of record_) held.client;
             }) self.new) }
-        ensures err { OnErr result ((schemas : Schemas EditFault) (held : Held)
+        ensures err { OnErr result ((schemas : WorldSchemas EditFault) (held : Held)
             → Stands schemas held self.old → Stands schemas held self.new) }
         ensures store { store_of self.new ≡ store_of self.old }
     {
@@ -217,10 +221,11 @@ impl Peer {
     /// `AlreadyOpen` exactly where it has asked before or is connected; `Refused` exactly where the room ended a session of
     /// it for another reason than `Slow`, which is given; or `OutOfMemory`. Then the peer is as before.
     pub fn connect(&mut self, alloc: Global, request: u64) -> Result<ClientMessage, ConnectFault>
-        ensures answer { (schemas : Schemas EditFault) (held : Held) → Stands schemas held self.old
+        ensures answer { (schemas : WorldSchemas EditFault) (held : Held)
+            → Stands schemas held self.old
             → Gives connect_fault.OutOfMemory (λ said. said) result (connect_answer
             (schema_of schemas held.client).versions request held.client) }
-        ensures ok { OnOk result ((schemas : Schemas EditFault) (held : Held)
+        ensures ok { OnOk result ((schemas : WorldSchemas EditFault) (held : Held)
             → Stands schemas held self.old
             → Stands schemas (record held { client = asking request held.client }) self.new) }
         ensures err { OnErr result (self.new ≡ self.old) }
@@ -233,10 +238,10 @@ impl Peer {
     /// was sent, or its pushes have reached 2^53 - 1. It costs a copy of the work. Where memory is refused the peer is as
     /// before.
     pub fn next_push(&mut self, alloc: Global) -> Mem<Option<ClientMessage>>
-        ensures push { IfOk result (λ push. (schemas : Schemas EditFault) (held : Held)
+        ensures push { IfOk result (λ push. (schemas : WorldSchemas EditFault) (held : Held)
             → Stands schemas held self.old
             → option_to_list push ≡ (pushed held.client).messages) }
-        ensures ok { OnOk result ((schemas : Schemas EditFault) (held : Held)
+        ensures ok { OnOk result ((schemas : WorldSchemas EditFault) (held : Held)
             → Stands schemas held self.old
             → Stands schemas (record held { client = (pushed held.client).client }) self.new) }
         ensures err { OnErr result (self.new ≡ self.old) }
@@ -259,18 +264,20 @@ impl Peer {
         message: &ServerMessage,
         steps: &mut Steps<L>,
     ) -> Result<(), TakeFault>
-        ensures fault { (schemas : Schemas EditFault) (held : Held) → Stands schemas held self.old
+        ensures fault { (schemas : WorldSchemas EditFault) (held : Held)
+            → Stands schemas held self.old
             → Gives take_fault_is.OutOfMemory (λ done. done) result (option_map_or
             (λ fault. Err fault) (take_fault held.client message.now) (Ok tt)) }
-        ensures ok { OnOk result ((schemas : Schemas EditFault) (held : Held)
+        ensures ok { OnOk result ((schemas : WorldSchemas EditFault) (held : Held)
             → Stands schemas held self.old
             → Stands schemas (after_message (schema_of schemas held.client).admits
-            schemas.is_document held message.now) self.new) }
-        ensures err { OnErr result ((schemas : Schemas EditFault) (held : Held)
+            schemas.room.is_document held message.now) self.new) }
+        ensures err { OnErr result ((schemas : WorldSchemas EditFault) (held : Held)
             → Stands schemas held self.old → Stands schemas held self.new) }
-        ensures ticks { (schemas : Schemas EditFault) (held : Held) → Stands schemas held self.old
+        ensures ticks { (schemas : WorldSchemas EditFault) (held : Held)
+            → Stands schemas held self.old
             → steps.new ≤ steps.old + (2 * operations (pending_diffs held.client) + message_steps
-            schemas.is_document held.base message.now) }
+            schemas.room.is_document held.base message.now) }
         ensures views { WatchAlike (store_of self.old) (store_of self.new) }
     {
         self.client.take(alloc, message, steps)
@@ -279,9 +286,10 @@ impl Peer {
     /// Learns that its connection is lost: its edits stay pending and are to be pushed again, its presence isn't pending
     /// any more, and those of others are gone. It takes no memory.
     pub fn lost(&mut self, alloc: Global)
-        ensures stands { (schemas : Schemas EditFault) (held : Held) → Stands schemas held self.old
+        ensures stands { (schemas : WorldSchemas EditFault) (held : Held)
+            → Stands schemas held self.old
             → Stands schemas (record {
-              base = records_with schemas.is_document held.base;
+              base = records_with schemas.room.is_document held.base;
               client = after_cut held.client;
             }) self.new }
         ensures store { store_of self.new ≡ store_of self.old }
@@ -292,9 +300,10 @@ impl Peer {
     /// Learns that the room ended its session: as `lost`, and after each reason but `Slow` it can't connect any more. It
     /// takes no memory.
     pub fn ended(&mut self, alloc: Global, reason: EndReason)
-        ensures stands { (schemas : Schemas EditFault) (held : Held) → Stands schemas held self.old
+        ensures stands { (schemas : WorldSchemas EditFault) (held : Held)
+            → Stands schemas held self.old
             → Stands schemas (record {
-              base = records_with schemas.is_document held.base;
+              base = records_with schemas.room.is_document held.base;
               client = after_end reason held.client;
             }) self.new }
         ensures store { store_of self.new ≡ store_of self.old }
@@ -304,7 +313,7 @@ impl Peer {
 
     /// The room's clock that it has reached, -1 before the first connection.
     pub fn reached(&self) -> i64
-        ensures { (schemas : Schemas EditFault) (held : Held) → Stands schemas held self.now
+        ensures { (schemas : WorldSchemas EditFault) (held : Held) → Stands schemas held self.now
             → result ≡ held.client.reached }
     {
         self.client.reached()
@@ -312,7 +321,7 @@ impl Peer {
 
     /// How many works are pending: edits that the room hasn't answered, and presences that were set on this connection.
     pub fn owed(&self) -> usize
-        ensures { (schemas : Schemas EditFault) (held : Held) → Stands schemas held self.now
+        ensures { (schemas : WorldSchemas EditFault) (held : Held) → Stands schemas held self.now
             → result ≡ length held.client.pending }
     {
         self.client.owed()
@@ -321,7 +330,7 @@ impl Peer {
     /// What the peer shows, as a map by id: the document of its base with its pending edits replayed. It costs a copy of
     /// all records.
     pub fn document(&self, alloc: Global) -> Mem<Val>
-        ensures { IfOk result (λ val. (schemas : Schemas EditFault) (held : Held)
+        ensures { IfOk result (λ val. (schemas : WorldSchemas EditFault) (held : Held)
             → Stands schemas held self.now → val ≡ map_val (shown schemas held)) }
     {
         let store = self.client.store();
@@ -334,7 +343,7 @@ impl Peer {
 
     /// The presence of others, as a map by id. It costs a copy of it.
     pub fn others(&self, alloc: Global) -> Mem<Val>
-        ensures { IfOk result (λ val. (schemas : Schemas EditFault) (held : Held)
+        ensures { IfOk result (λ val. (schemas : WorldSchemas EditFault) (held : Held)
             → Stands schemas held self.now → val ≡ map_val (others_shown schemas held)) }
     {
         Ok(Val::Map(self.client.others().copy(alloc)?))
@@ -343,7 +352,7 @@ impl Peer {
     /// The ids of the records of a type that it shows and that meet a query, by id. It costs a walk over the ids, and a
     /// look-up and the query for each of the type.
     pub fn query(&self, alloc: Global, type_name: &str, query: &Query) -> Mem<Vec<Text>>
-        ensures { IfOk result (λ ids. (schemas : Schemas EditFault) (held : Held)
+        ensures { IfOk result (λ ids. (schemas : WorldSchemas EditFault) (held : Held)
             → Stands schemas held self.now
             → ids.items ≡ ids_meeting (shown schemas held) type_name.now query.now) }
     {
@@ -360,7 +369,8 @@ impl Peer {
             → IsWatching old new id.number view.now → Stand (watched self.new) new) }
         ensures full { (result ≡ Err watch_fault.Full) ↔ IsFull (watched self.old) }
         ensures err { OnErr result (watched self.new ≡ watched self.old) }
-        ensures stands { (schemas : Schemas EditFault) (held : Held) → Stands schemas held self.old
+        ensures stands { (schemas : WorldSchemas EditFault) (held : Held)
+            → Stands schemas held self.old
             → Stands schemas held self.new }
         ensures begun { begun (store_of self.new) ≡ begun (store_of self.old) }
     {
@@ -376,15 +386,16 @@ impl Peer {
         alloc: Global,
         steps: &mut Steps<L>,
     ) -> Mem<Vec<(WatchId, Val)>>
-        ensures told { IfOk result (λ told. (schemas : Schemas EditFault) (held : Held)
+        ensures told { IfOk result (λ told. (schemas : WorldSchemas EditFault) (held : Held)
             (ws : Watches) → Stands schemas held self.old → IsClosed self.old
             → Stand (watched self.old) ws
             → by_number told.items ≡ news (shown schemas held) ws) }
-        ensures ok { OnOk result ((schemas : Schemas EditFault) (held : Held) (ws : Watches)
+        ensures ok { OnOk result ((schemas : WorldSchemas EditFault) (held : Held) (ws : Watches)
             → Stands schemas held self.old → IsClosed self.old → Stand (watched self.old) ws
             → Stand (watched self.new) (all_told (shown schemas held) ws)) }
         ensures err { OnErr result (watched self.new ≡ watched self.old) }
-        ensures stands { (schemas : Schemas EditFault) (held : Held) → Stands schemas held self.old
+        ensures stands { (schemas : WorldSchemas EditFault) (held : Held)
+            → Stands schemas held self.old
             → Stands schemas held self.new }
         ensures begun { begun (store_of self.new) ≡ begun (store_of self.old) }
         ensures free { AreFreshIn (watched self.old) (store_of self.old).txn.graph.values

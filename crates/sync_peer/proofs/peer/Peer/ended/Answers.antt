@@ -12,7 +12,7 @@ returns c = record {
   stands = λ schemas held stands.
       let old = c.args.self.now in
       let left = after_end c.args.reason held.client in
-      stands_on schemas held old stands (record { base = records_with schemas.is_document held.base; client = left }) (record { client = c.ended.new.self; marks = old.marks }) (end_version c.args.reason held.client) c.ended.ensures.schema
+      stands_on schemas held old stands (record { base = records_with schemas.room.is_document held.base; client = left }) (record { client = c.ended.new.self; marks = old.marks }) (end_version c.args.reason held.client) c.ended.ensures.schema
       (subst (λ test. client.Stands records_of (record { base = records_with test held.base; client = left }) c.ended.new.self)
       (sym (document_is schemas held old stands)) (c.ended.ensures.stands held stands.client)) (subst (λ m. marks.Stands m old.marks) (sym (end_marks c.args.reason held.client)) stands.marks);
   store = c.ended.ensures.store;

@@ -15,10 +15,10 @@ returns-clause-ok g c = on_ok c.take.result (λ told schemas held stands.
     let old = c.args.self.now in
     let said = c.args.message.now in
     let admits = (schema_of schemas held.client).admits in
-    stands_on schemas held old stands (after_message admits schemas.is_document held said) (record { client = c.take.new.self; marks = old.marks }) (message_version admits schemas.is_document held said) c.take.ensures.schema
+    stands_on schemas held old stands (after_message admits schemas.room.is_document held said) (record { client = c.take.new.self; marks = old.marks }) (message_version admits schemas.room.is_document held said) c.take.ensures.schema
     (subst (λ test. client.Stands records_of (after_message admits test held said) c.take.new.self) (sym (document_is schemas held old stands))
     (subst (λ admitted. client.Stands records_of (after_message admitted (document_of old.client.replica) held said) c.take.new.self) (sym (admits_are schemas held old stands))
-    (told held stands.client))) (subst (λ m. marks.Stands m old.marks) (sym (message_marks admits schemas.is_document held said)) stands.marks)) c.take.ensures.ok
+    (told held stands.client))) (subst (λ m. marks.Stands m old.marks) (sym (message_marks admits schemas.room.is_document held said)) stands.marks)) c.take.ensures.ok
 
 pub returns-clause-ticks : goal.returns-clause-ticks
 returns-clause-ticks g c = λ schemas held stands.
