@@ -9,7 +9,7 @@ use Rattle.field_ops.specs.RecordOps.{RecordOps}
 use Rattle.doc_model.specs.Inverses.{inverse_diff}
 use Rattle.doc_model.specs.Marks as marks
 use Rattle.doc_model.specs.Marks.{Marks}
-use Rattle.room_model.specs.Schemas.{Schemas}
+use Rattle.room_model.specs.Schemas.{WorldSchemas}
 use Rattle.room_model.specs.Replicas.{Client, session_of, edit, with_work, unsent, push_all, push_none, after_diff, schema_of}
 use Rattle.room_model.specs.Worlds as model
 use Rattle.room_model.specs.Worlds.{with_client, with_pushing, shown_in, inverse_in, on_mark, on_undo, on_redo, on_bail, happens, after_event}
@@ -94,7 +94,7 @@ more_none owed n c more same =
     ] refl
 
 -- a client that pushes nothing leaves the parts as they are
-pub fits_none : (schemas : Schemas EditFault) (w : model.World) (live : Live) (at : ℕ) (c : Client) → Fits schemas w live → slice_get w.clients at ≡ Some c → Fits schemas (with_pushing at (push_none c) w) live
+pub fits_none : (schemas : WorldSchemas EditFault) (w : model.World) (live : Live) (at : ℕ) (c : Client) → Fits schemas w live → slice_get w.clients at ≡ Some c → Fits schemas (with_pushing at (push_none c) w) live
 fits_none schemas w live at c fits made =
     fits_idle schemas w at c live (subst (λ (v : model.World). Fits schemas v live) (sym (λ i. record w { clients = set_again w.clients at c made i })) fits)
 
@@ -106,15 +106,15 @@ missing : {X : Type 0} (o : Option X) → false ≡ is_some o → o ≡ None
 missing None is = refl
 missing (Some x) is = absurd (cc)
 
-module _ (schemas : Schemas EditFault) (w : model.World) (live : Live) (keeps : Keeps schemas w live) (at : ℕ) (one : WorldClient) (less : at < vec_len live.clients)
+module _ (schemas : WorldSchemas EditFault) (w : model.World) (live : Live) (keeps : Keeps schemas w live) (at : ℕ) (one : WorldClient) (less : at < vec_len live.clients)
     (is : one ≡ get_or live.clients.items at one) (after : Peer) (mid : Live) (room : mid.room ≡ live.room) (queues : mid.queues ≡ live.queues)
     (set : mid.clients.items ≡ slice_set live.clients.items at (record one { peer = after })) where
   -- what a client that pushes what is more has come to
   abbrev pub PushesMore : ℕ → Live → Type 0
-  PushesMore owed new = (schemas : Schemas EditFault) (world : model.World) (client : Client) → Fits schemas world mid → slice_get world.clients at ≡ Some client
+  PushesMore owed new = (schemas : WorldSchemas EditFault) (world : model.World) (client : Client) → Fits schemas world mid → slice_get world.clients at ≡ Some client
       → Fits schemas (with_pushing at (push_more owed client) world) new
 
-  pub mark_done : (name : List ℕ) → ((schemas : Schemas EditFault) (held : Held) → peer_of.Stands schemas held one.peer → peer_of.Stands schemas (with_marks (marks.after_mark name held.client.marks) held) after)
+  pub mark_done : (name : List ℕ) → ((schemas : WorldSchemas EditFault) (held : Held) → peer_of.Stands schemas held one.peer → peer_of.Stands schemas (with_marks (marks.after_mark name held.client.marks) held) after)
       → (lines : Vec OutLine) → lines.items ≡ [] → Answers schemas w (on_mark at name w) (Ok lines) mid
   mark_done name marked lines prints =
       let it = is_there schemas w live at at one keeps.fits refl less is in
@@ -157,23 +157,23 @@ module _ (schemas : Schemas EditFault) (w : model.World) (live : Live) (keeps : 
     back_seen : (diff : RecordOps) → back_of schemas (held_of schemas w.room.history c) diff ≡ inverse_in schemas w c diff
     back_seen diff = ap (λ m. inverse_diff (schema_of schemas c).admits m diff) (shown_is schemas w live keeps at c made)
 
-    undid : ((schemas : Schemas EditFault) (held : Held) → peer_of.Stands schemas held one.peer → peer_of.Stands schemas (undone schemas held) after) → (diff : RecordOps) → marks.undo_diff c.marks ≡ Some diff
+    undid : ((schemas : WorldSchemas EditFault) (held : Held) → peer_of.Stands schemas held one.peer → peer_of.Stands schemas (undone schemas held) after) → (diff : RecordOps) → marks.undo_diff c.marks ≡ Some diff
         → peer_of.Stands schemas (with_marked diff (marks.after_undo (inverse_in schemas w c diff) c.marks) (held_of schemas w.room.history c)) after
     undid goes diff found =
         let held = held_of schemas w.room.history c in
         subst (λ b. peer_of.Stands schemas (with_marked diff (marks.after_undo b c.marks) held) after) (back_seen diff)
         (subst (λ o. peer_of.Stands schemas (option_map_or (λ diff. with_marked diff (marks.after_undo (back_of schemas held diff) c.marks) held) o held) after) found (goes schemas held kept.peer))
 
-    redid : ((schemas : Schemas EditFault) (held : Held) → peer_of.Stands schemas held one.peer → peer_of.Stands schemas (redone schemas held) after) → (diff : RecordOps) → marks.redo_diff c.marks ≡ Some diff
+    redid : ((schemas : WorldSchemas EditFault) (held : Held) → peer_of.Stands schemas held one.peer → peer_of.Stands schemas (redone schemas held) after) → (diff : RecordOps) → marks.redo_diff c.marks ≡ Some diff
         → peer_of.Stands schemas (with_marked diff (marks.after_redo (inverse_in schemas w c diff) c.marks) (held_of schemas w.room.history c)) after
     redid goes diff found =
         let held = held_of schemas w.room.history c in
         subst (λ b. peer_of.Stands schemas (with_marked diff (marks.after_redo b c.marks) held) after) (back_seen diff)
         (subst (λ o. peer_of.Stands schemas (option_map_or (λ diff. with_marked diff (marks.after_redo (back_of schemas held diff) c.marks) held) o held) after) found (goes schemas held kept.peer))
 
-  pub undo_done : ((schemas : Schemas EditFault) (held : Held) → peer_of.Stands schemas held one.peer → true ≡ is_some (marks.undo_diff held.client.marks))
-      → ((schemas : Schemas EditFault) (held : Held) → peer_of.Stands schemas held one.peer → peer_of.Stands schemas (undone schemas held) after)
-      → (owed : ℕ) → ((schemas : Schemas EditFault) (held : Held) → peer_of.Stands schemas held one.peer → owed ≡ length held.client.pending)
+  pub undo_done : ((schemas : WorldSchemas EditFault) (held : Held) → peer_of.Stands schemas held one.peer → true ≡ is_some (marks.undo_diff held.client.marks))
+      → ((schemas : WorldSchemas EditFault) (held : Held) → peer_of.Stands schemas held one.peer → peer_of.Stands schemas (undone schemas held) after)
+      → (owed : ℕ) → ((schemas : WorldSchemas EditFault) (held : Held) → peer_of.Stands schemas held one.peer → owed ≡ length held.client.pending)
       → (new : Live) → PushesMore owed new → to_client new.queues ≡ to_client mid.queues → (lines : Vec OutLine) → lines.items ≡ line.Undo at true ∷ [] → Answers schemas w (on_undo schemas at w) (Ok lines) new
   undo_done did goes owed owes new pushes given lines prints =
       let it = is_there schemas w live at at one keeps.fits refl less is in
@@ -185,8 +185,8 @@ module _ (schemas : Schemas EditFault) (w : model.World) (live : Live) (keeps : 
       (if_some _ (slice_get w.clients at) (Err NoSuchClient) c it.made ∙ if_some _ (marks.undo_diff c.marks) (happens (line.Undo at false ∷ []) w) diff there.1) refl
       (undid c it.made it.kept goes diff there.1) owed (owes schemas held it.kept.peer) new pushes given lines prints
 
-  pub undo_not_done : ((schemas : Schemas EditFault) (held : Held) → peer_of.Stands schemas held one.peer → false ≡ is_some (marks.undo_diff held.client.marks))
-      → ((schemas : Schemas EditFault) (held : Held) → peer_of.Stands schemas held one.peer → peer_of.Stands schemas (undone schemas held) after)
+  pub undo_not_done : ((schemas : WorldSchemas EditFault) (held : Held) → peer_of.Stands schemas held one.peer → false ≡ is_some (marks.undo_diff held.client.marks))
+      → ((schemas : WorldSchemas EditFault) (held : Held) → peer_of.Stands schemas held one.peer → peer_of.Stands schemas (undone schemas held) after)
       → (lines : Vec OutLine) → lines.items ≡ line.Undo at false ∷ [] → Answers schemas w (on_undo schemas at w) (Ok lines) mid
   undo_not_done did goes lines prints =
       let it = is_there schemas w live at at one keeps.fits refl less is in
@@ -197,9 +197,9 @@ module _ (schemas : Schemas EditFault) (w : model.World) (live : Live) (keeps : 
       (if_some _ (slice_get w.clients at) (Err NoSuchClient) c it.made ∙ if_none _ (marks.undo_diff c.marks) (happens (line.Undo at false ∷ []) w) none) refl
       (subst (λ o. peer_of.Stands schemas (option_map_or (λ diff. with_marked diff (marks.after_undo (back_of schemas held diff) c.marks) held) o held) after) none (goes schemas held it.kept.peer)) lines prints
 
-  pub redo_done : ((schemas : Schemas EditFault) (held : Held) → peer_of.Stands schemas held one.peer → true ≡ is_some (marks.redo_diff held.client.marks))
-      → ((schemas : Schemas EditFault) (held : Held) → peer_of.Stands schemas held one.peer → peer_of.Stands schemas (redone schemas held) after)
-      → (owed : ℕ) → ((schemas : Schemas EditFault) (held : Held) → peer_of.Stands schemas held one.peer → owed ≡ length held.client.pending)
+  pub redo_done : ((schemas : WorldSchemas EditFault) (held : Held) → peer_of.Stands schemas held one.peer → true ≡ is_some (marks.redo_diff held.client.marks))
+      → ((schemas : WorldSchemas EditFault) (held : Held) → peer_of.Stands schemas held one.peer → peer_of.Stands schemas (redone schemas held) after)
+      → (owed : ℕ) → ((schemas : WorldSchemas EditFault) (held : Held) → peer_of.Stands schemas held one.peer → owed ≡ length held.client.pending)
       → (new : Live) → PushesMore owed new → to_client new.queues ≡ to_client mid.queues → (lines : Vec OutLine) → lines.items ≡ line.Redo at true ∷ [] → Answers schemas w (on_redo schemas at w) (Ok lines) new
   redo_done did goes owed owes new pushes given lines prints =
       let it = is_there schemas w live at at one keeps.fits refl less is in
@@ -211,8 +211,8 @@ module _ (schemas : Schemas EditFault) (w : model.World) (live : Live) (keeps : 
       (if_some _ (slice_get w.clients at) (Err NoSuchClient) c it.made ∙ if_some _ (marks.redo_diff c.marks) (happens (line.Redo at false ∷ []) w) diff there.1) refl
       (redid c it.made it.kept goes diff there.1) owed (owes schemas held it.kept.peer) new pushes given lines prints
 
-  pub redo_not_done : ((schemas : Schemas EditFault) (held : Held) → peer_of.Stands schemas held one.peer → false ≡ is_some (marks.redo_diff held.client.marks))
-      → ((schemas : Schemas EditFault) (held : Held) → peer_of.Stands schemas held one.peer → peer_of.Stands schemas (redone schemas held) after)
+  pub redo_not_done : ((schemas : WorldSchemas EditFault) (held : Held) → peer_of.Stands schemas held one.peer → false ≡ is_some (marks.redo_diff held.client.marks))
+      → ((schemas : WorldSchemas EditFault) (held : Held) → peer_of.Stands schemas held one.peer → peer_of.Stands schemas (redone schemas held) after)
       → (lines : Vec OutLine) → lines.items ≡ line.Redo at false ∷ [] → Answers schemas w (on_redo schemas at w) (Ok lines) mid
   redo_not_done did goes lines prints =
       let it = is_there schemas w live at at one keeps.fits refl less is in
@@ -223,9 +223,9 @@ module _ (schemas : Schemas EditFault) (w : model.World) (live : Live) (keeps : 
       (if_some _ (slice_get w.clients at) (Err NoSuchClient) c it.made ∙ if_none _ (marks.redo_diff c.marks) (happens (line.Redo at false ∷ []) w) none) refl
       (subst (λ o. peer_of.Stands schemas (option_map_or (λ diff. with_marked diff (marks.after_redo (back_of schemas held diff) c.marks) held) o held) after) none (goes schemas held it.kept.peer)) lines prints
 
-  pub bail_is_done : (name : List ℕ) → ((schemas : Schemas EditFault) (held : Held) → peer_of.Stands schemas held one.peer → bail_done name held.client.marks ≡ Ok tt)
-      → ((schemas : Schemas EditFault) (held : Held) → peer_of.Stands schemas held one.peer → peer_of.Stands schemas (bailed schemas name held) after)
-      → (owed : ℕ) → ((schemas : Schemas EditFault) (held : Held) → peer_of.Stands schemas held one.peer → owed ≡ length held.client.pending)
+  pub bail_is_done : (name : List ℕ) → ((schemas : WorldSchemas EditFault) (held : Held) → peer_of.Stands schemas held one.peer → bail_done name held.client.marks ≡ Ok tt)
+      → ((schemas : WorldSchemas EditFault) (held : Held) → peer_of.Stands schemas held one.peer → peer_of.Stands schemas (bailed schemas name held) after)
+      → (owed : ℕ) → ((schemas : WorldSchemas EditFault) (held : Held) → peer_of.Stands schemas held one.peer → owed ≡ length held.client.pending)
       → (new : Live) → PushesMore owed new → to_client new.queues ≡ to_client mid.queues → (lines : Vec OutLine) → lines.items ≡ [] → Answers schemas w (on_bail schemas at name w) (Ok lines) new
   bail_is_done name did goes owed owes new pushes given lines prints =
       let it = is_there schemas w live at at one keeps.fits refl less is in
@@ -238,8 +238,8 @@ module _ (schemas : Schemas EditFault) (w : model.World) (live : Live) (keeps : 
       (subst (λ o. peer_of.Stands schemas (option_map_or (λ diff. with_marked diff (marks.after_bail name c.marks) held) o held) after) there.1 (goes schemas held it.kept.peer))
       owed (owes schemas held it.kept.peer) new pushes given lines prints
 
-  pub bail_refused : (name : List ℕ) → ((schemas : Schemas EditFault) (held : Held) → peer_of.Stands schemas held one.peer → bail_done name held.client.marks ≡ Err bail.NoMark)
-      → ((schemas : Schemas EditFault) (held : Held) → peer_of.Stands schemas held one.peer → peer_of.Stands schemas held after)
+  pub bail_refused : (name : List ℕ) → ((schemas : WorldSchemas EditFault) (held : Held) → peer_of.Stands schemas held one.peer → bail_done name held.client.marks ≡ Err bail.NoMark)
+      → ((schemas : WorldSchemas EditFault) (held : Held) → peer_of.Stands schemas held one.peer → peer_of.Stands schemas held after)
       → Answers schemas w (on_bail schemas at name w) (Err NoMark) mid
   bail_refused name refuses stays =
       let it = is_there schemas w live at at one keeps.fits refl less is in

@@ -4,7 +4,7 @@ use Rattle.std.specs.Prelude.{vec_len, filter_map, option_map}
 use Rattle.std.specs.Global.{Vec}
 use Rattle.std.specs.Option.{option_map_or}
 use Rattle.migrate_seq.specs.Versions.{Versions}
-use Rattle.room_model.specs.Schemas.{Schemas, records_with}
+use Rattle.room_model.specs.Schemas.{WorldSchemas, records_with}
 use Rattle.room_model.specs.Histories.{History}
 use Rattle.room_model.specs.Rooms.{Room, is_full}
 use Rattle.room_model.specs.Replicas.{Pending, edit, presence, Client, session_of, is_open, diff_in, all_unsent, after_cut, schema_of, base_of}
@@ -92,7 +92,7 @@ allowed versions k c said is =
           ] refl e
     ] refl is
 
-module _ (schemas : Schemas EditFault) (w : model.World) (n : ℕ) (c : Client) (at : slice_get w.clients n ≡ Some c) (readonly : Bool) where
+module _ (schemas : WorldSchemas EditFault) (w : model.World) (n : ℕ) (c : Client) (at : slice_get w.clients n ≡ Some c) (readonly : Bool) where
   -- whom its peer refuses the world refuses for the same
   refused_so : (versions : Versions) (k : ℕ) (fault : ConnectFault) → connect_answer versions k c ≡ Err fault → on_connect schemas n readonly w ≡ Err (Connect fault)
   refused_so versions k fault is =
@@ -105,7 +105,7 @@ module _ (schemas : Schemas EditFault) (w : model.World) (n : ℕ) (c : Client) 
         ] refl e
       ] refl is
 
-module _ (schemas : Schemas EditFault) (history : History) (c : Client) (off : c.connection ≡ Off) where
+module _ (schemas : WorldSchemas EditFault) (history : History) (c : Client) (off : c.connection ≡ Off) where
   off_base : (replica_of schemas history c).base ≡ base_of schemas history c
   off_base = ap (base_by schemas history c) off
 
@@ -117,14 +117,14 @@ module _ (schemas : Schemas EditFault) (history : History) (c : Client) (off : c
     session = refl;
   }
 
-module _ (schemas : Schemas EditFault) (w : model.World) (live : Live) (keeps : Keeps schemas w live) (at : ℕ) (one : WorldClient) (less : at < vec_len live.clients)
+module _ (schemas : WorldSchemas EditFault) (w : model.World) (live : Live) (keeps : Keeps schemas w live) (at : ℕ) (one : WorldClient) (less : at < vec_len live.clients)
     (is : one ≡ get_or live.clients.items at one) (readonly : Bool) (k : ℕ) (after : Peer) (mid : Live) (room : mid.room ≡ live.room) (queues : mid.queues ≡ live.queues)
     (set : mid.clients.items ≡ slice_set live.clients.items at (record one { peer = after })) where
   it : IsThere schemas w at one
   it = is_there schemas w live at at one keeps.fits refl less is
 
   pub connect_refused : (fault : ConnectFault)
-      → ((schemas : Schemas EditFault) (held : Held) → peer_of.Stands schemas held one.peer → connect_answer (schema_of schemas held.client).versions k held.client ≡ Err fault)
+      → ((schemas : WorldSchemas EditFault) (held : Held) → peer_of.Stands schemas held one.peer → connect_answer (schema_of schemas held.client).versions k held.client ≡ Err fault)
       → after ≡ one.peer → Answers schemas w (on_connect schemas at readonly w) (Err (Connect fault)) mid
   connect_refused fault refuses same = (
     refused_so schemas w at it.client it.made readonly (schema_of schemas it.client).versions k fault (refuses schemas (held_of schemas w.room.history it.client) it.kept.peer),
@@ -135,8 +135,8 @@ module _ (schemas : Schemas EditFault) (w : model.World) (live : Live) (keeps : 
   )
 
   module _ (number : k ≡ length (to_client live.queues)) (said : ClientMessage)
-      (answers : (schemas : Schemas EditFault) (held : Held) → peer_of.Stands schemas held one.peer → connect_answer (schema_of schemas held.client).versions k held.client ≡ Ok said)
-      (stands : (schemas : Schemas EditFault) (held : Held) → peer_of.Stands schemas held one.peer → peer_of.Stands schemas (record held { client = asking k held.client }) after)
+      (answers : (schemas : WorldSchemas EditFault) (held : Held) → peer_of.Stands schemas held one.peer → connect_answer (schema_of schemas held.client).versions k held.client ≡ Ok said)
+      (stands : (schemas : WorldSchemas EditFault) (held : Held) → peer_of.Stands schemas held one.peer → peer_of.Stands schemas (record held { client = asking k held.client }) after)
       (between : Live) (clients : between.clients ≡ mid.clients) (second : WorldClient) (read : second ≡ get_or between.clients.items at second)
       (new : Live) (new_room : new.room ≡ between.room) (new_queues : new.queues ≡ between.queues) where
     -- the session that would enter is the next of the room
@@ -191,8 +191,8 @@ module _ (schemas : Schemas EditFault) (w : model.World) (live : Live) (keeps : 
         (ap to_client new_queues ∙ e.1.given ∙ ap (λ q. to_client q ++ [] ∷ []) queues)
 
     pub connect_none : slice_get live.clients.items at ≡ Some one → ((state : Room) → room_of.Stands state live.room → Enters k readonly said state false mid between) → (last : Peer)
-        → ((schemas : Schemas EditFault) (held : Held) → peer_of.Stands schemas held second.peer
-        → peer_of.Stands schemas (record { base = records_with schemas.is_document held.base; client = after_cut held.client }) last)
+        → ((schemas : WorldSchemas EditFault) (held : Held) → peer_of.Stands schemas held second.peer
+        → peer_of.Stands schemas (record { base = records_with schemas.room.is_document held.base; client = after_cut held.client }) last)
         → new.clients.items ≡ slice_set between.clients.items at (record second { peer = last }) → Answers schemas w (on_connect schemas at readonly w) (Err Limit) new
     connect_none was enters last lost sets =
         let c = it.client in

@@ -4,7 +4,7 @@ use Rattle.std.specs.Prelude.{vec_len}
 use Rattle.std.specs.Global.{Vec}
 use Rattle.std.specs.Option.{option_map_or}
 use Rattle.std.proofs.lemmas.List.{set-get_or}
-use Rattle.room_model.specs.Schemas.{Schemas, records_with}
+use Rattle.room_model.specs.Schemas.{WorldSchemas, records_with}
 use Rattle.room_model.specs.Histories.{History}
 use Rattle.room_model.specs.Rooms.{Notice, snapshot_at, updates_between, pong, end}
 use Rattle.room_model.specs.Replicas.{Client, session_of, push_all, push_none, after_end, after_notice, base_of, schema_of}
@@ -57,7 +57,7 @@ arrived_session history k c pong is = is
 arrived_session history k c (end reason) is = is
 
 -- an answer is what a snapshot tells, after which the client pushes; after anything else it does not
-module _ (schemas : Schemas EditFault) (w : model.World) (c : Client) (k : ℕ) (h : History) where
+module _ (schemas : WorldSchemas EditFault) (w : model.World) (c : Client) (k : ℕ) (h : History) where
   pub answer_pushes : (notice : Notice) (hydration : Hydration) (request : List ℕ) (protocol : ℤ) (versions : Versions) (diff : RecordOps) (clock : ℤ) (readonly : Bool)
       → Message (message.Connect hydration request protocol versions diff clock readonly) ≡ told schemas w.room c k notice → after_notice h k c notice ≡ push_all (arrived h k c notice)
   answer_pushes (snapshot_at at) hydration request protocol versions diff clock readonly is = refl
@@ -77,12 +77,12 @@ module _ (schemas : Schemas EditFault) (w : model.World) (c : Client) (k : ℕ) 
   pong_rests pong is = refl
   pong_rests (end reason) is = absurd (cc)
 
-module _ (schemas : Schemas EditFault) (w : model.World) (live : Live) (fits : Fits schemas w live) (at : ℕ) (c : Client) (one : WorldClient) (less : at < vec_len live.clients)
+module _ (schemas : WorldSchemas EditFault) (w : model.World) (live : Live) (fits : Fits schemas w live) (at : ℕ) (c : Client) (one : WorldClient) (less : at < vec_len live.clients)
     (made : slice_get w.clients at ≡ Some c) (is : one ≡ get_or live.clients.items at one) (k : ℕ) (said : ServerMessage) (notice : Notice)
     (delivery : IsDelivery schemas w c k (Message said) notice) (after : Peer) (mid : Live) (room : mid.room ≡ live.room) (queues : mid.queues ≡ live.queues)
     (set : mid.clients.items ≡ slice_set live.clients.items at (record one { peer = after }))
-    (took : (schemas : Schemas EditFault) (held : Held) → peer_of.Stands schemas held one.peer
-    → peer_of.Stands schemas (after_message (schema_of schemas held.client).admits schemas.is_document held said) after) where
+    (took : (schemas : WorldSchemas EditFault) (held : Held) → peer_of.Stands schemas held one.peer
+    → peer_of.Stands schemas (after_message (schema_of schemas held.client).admits schemas.room.is_document held said) after) where
   come : Fits schemas (with_client at (arrived w.room.history k c notice) w) mid
   come =
       let kept = client_is schemas w live fits at c one less made is in
@@ -94,7 +94,7 @@ module _ (schemas : Schemas EditFault) (w : model.World) (live : Live) (fits : F
 
   -- it was connected, and has pushed
   pub taken_answer : after_notice w.room.history k c notice ≡ push_all (arrived w.room.history k c notice) → (new : Live)
-      → ((schemas : Schemas EditFault) (world : model.World) (client : Client) → Fits schemas world mid → slice_get world.clients at ≡ Some client → Fits schemas (with_pushing at (push_all client) world) new)
+      → ((schemas : WorldSchemas EditFault) (world : model.World) (client : Client) → Fits schemas world mid → slice_get world.clients at ≡ Some client → Fits schemas (with_pushing at (push_all client) world) new)
       → Fits schemas (with_pushing at (after_notice w.room.history k c notice) w) new
   taken_answer same new pushes =
       let d = arrived w.room.history k c notice in
@@ -106,14 +106,14 @@ module _ (schemas : Schemas EditFault) (w : model.World) (live : Live) (fits : F
   taken_data same = subst (λ p. Fits schemas (with_pushing at p w) mid) (sym same) (fits_idle schemas w at (arrived w.room.history k c notice) mid come)
 
 -- only an end is told as one
-end_is : (schemas : Schemas EditFault) (w : model.World) (c : Client) (k : ℕ) (reason : EndReason) (notice : Notice) → End reason ≡ told schemas w.room c k notice → notice ≡ end reason
+end_is : (schemas : WorldSchemas EditFault) (w : model.World) (c : Client) (k : ℕ) (reason : EndReason) (notice : Notice) → End reason ≡ told schemas w.room c k notice → notice ≡ end reason
 end_is schemas w c k reason (snapshot_at at) is = absurd (cc)
 end_is schemas w c k reason (updates_between from to) is = absurd (cc)
 end_is schemas w c k reason pong is = absurd (cc)
 end_is schemas w c k reason (end other) is = let same : reason ≡ other = cc in ap (λ r. end r) (sym same)
 
 -- a client whose session is ended has no session, and of the room its document alone
-ended_base : (schemas : Schemas EditFault) (history : History) (c : Client) (reason : EndReason) → (replica_of schemas history (after_end reason c)).base ≡ base_of schemas history c
+ended_base : (schemas : WorldSchemas EditFault) (history : History) (c : Client) (reason : EndReason) → (replica_of schemas history (after_end reason c)).base ≡ base_of schemas history c
 ended_base schemas history c Slow = refl
 ended_base schemas history c ClientTooOld = refl
 ended_base schemas history c ServerTooOld = refl
@@ -128,7 +128,7 @@ ended_session c InvalidRecord = refl
 ended_session c RoomFull = refl
 
 -- what a delivery prints of a message
-message_lines : (schemas : Schemas EditFault) (w : model.World) (c : Client) (k n : ℕ) (notice : Notice) (said : ServerMessage) → Message said ≡ told schemas w.room c k notice → notice_lines n notice ≡ []
+message_lines : (schemas : WorldSchemas EditFault) (w : model.World) (c : Client) (k n : ℕ) (notice : Notice) (said : ServerMessage) → Message said ≡ told schemas w.room c k notice → notice_lines n notice ≡ []
 message_lines schemas w c k n (snapshot_at at) said is = refl
 message_lines schemas w c k n (updates_between from to) said is = refl
 message_lines schemas w c k n pong said is = refl
@@ -142,7 +142,7 @@ told_none : {X Y : Type 0} (f : X → Y) (xs : List X) → None ≡ slice_get (m
 told_none f [] is = refl
 told_none f (x ∷ xs) is = absurd (cc)
 
-module _ (schemas : Schemas EditFault) (w : model.World) (live : Live) (keeps : Keeps schemas w live) (at : ℕ) (one : WorldClient) (less : at < vec_len live.clients)
+module _ (schemas : WorldSchemas EditFault) (w : model.World) (live : Live) (keeps : Keeps schemas w live) (at : ℕ) (one : WorldClient) (less : at < vec_len live.clients)
     (is : one ≡ get_or live.clients.items at one) where
   pub deliver_refused : one.session ≡ None → Answers schemas w (on_deliver at w) (Err NoSuchSession) live
   deliver_refused none = let it = is_there schemas w live at at one keeps.fits refl less is in (delivers_none w at it.client it.made (sym it.kept.session ∙ none), keeps)
@@ -200,7 +200,7 @@ module _ (schemas : Schemas EditFault) (w : model.World) (live : Live) (keeps : 
           (delivers w at it.client it.made k has the_channel.0 the_channel.1 next.0 next.1.0 next.1.1.0) (prints ∙ sym says) fits (same ∙ given ∙ sym queues_are)
 
       pub deliver_message : (said : ServerMessage) → out ≡ Message said → (new : Live) → (lines : Vec OutLine) → lines.items ≡ []
-          → ((schemas : Schemas EditFault) (world : model.World) (client : Client) (k : ℕ) (notice : Notice) → Fits schemas world popped → slice_get world.clients at ≡ Some client
+          → ((schemas : WorldSchemas EditFault) (world : model.World) (client : Client) (k : ℕ) (notice : Notice) → Fits schemas world popped → slice_get world.clients at ≡ Some client
           → IsDelivery schemas world client k (Message said) notice → Fits schemas (with_pushing at (after_notice world.room.history k client notice) world) new)
           → to_client new.queues ≡ to_client popped.queues → Answers schemas w (on_deliver at w) (Ok lines) new
       deliver_message said is new lines prints takes same =
@@ -214,7 +214,7 @@ module _ (schemas : Schemas EditFault) (w : model.World) (live : Live) (keeps : 
           })) same
 
       pub deliver_end : (reason : EndReason) → out ≡ End reason → (after : Peer)
-          → ((schemas : Schemas EditFault) (held : Held) → peer_of.Stands schemas held one.peer → peer_of.Stands schemas (record { base = records_with schemas.is_document held.base; client = after_end reason held.client }) after)
+          → ((schemas : WorldSchemas EditFault) (held : Held) → peer_of.Stands schemas held one.peer → peer_of.Stands schemas (record { base = records_with schemas.room.is_document held.base; client = after_end reason held.client }) after)
           → (new : Live) → new.room ≡ popped.room → new.queues ≡ popped.queues → new.clients.items ≡ slice_set popped.clients.items at (record one { peer = after; session = None })
           → (lines : Vec OutLine) → lines.items ≡ line.Ended at reason ∷ [] → Answers schemas w (on_deliver at w) (Ok lines) new
       deliver_end reason is after ended new room_is queues_is set lines prints =

@@ -5,7 +5,7 @@ use Rattle.std.specs.Global.{Vec}
 use Rattle.field_ops.specs.RecordOps.{RecordOps}
 use Rattle.doc_model.specs.Inverses.{inverse_diff}
 use Rattle.doc_model.specs.Marks as marks
-use Rattle.room_model.specs.Schemas.{Schemas}
+use Rattle.room_model.specs.Schemas.{WorldSchemas}
 use Rattle.room_model.specs.Replicas.{Client, edit, with_work, push_all, schema_of}
 use Rattle.room_model.specs.Worlds as model
 use Rattle.room_model.specs.Worlds.{with_client, with_pushing, shown_in, inverse_in, on_edit}
@@ -32,7 +32,7 @@ use Rattle.sync_world.proofs.PartLemmas.{happened, fits_client, pushing_over}
 use Rattle.sync_world.proofs.EventLemmas.{is_there}
 use Rattle.sync_world.proofs.ShowLemmas.{shown_is}
 
-module _ (schemas : Schemas EditFault) (w : model.World) (live : Live) (keeps : Keeps schemas w live) (at : ℕ) (one : WorldClient) (less : at < vec_len live.clients)
+module _ (schemas : WorldSchemas EditFault) (w : model.World) (live : Live) (keeps : Keeps schemas w live) (at : ℕ) (one : WorldClient) (less : at < vec_len live.clients)
     (is : one ≡ get_or live.clients.items at one) (after : Peer) (mid : Live) (room : mid.room ≡ live.room) (queues : mid.queues ≡ live.queues)
     (set : mid.clients.items ≡ slice_set live.clients.items at (record one { peer = after })) where
   -- a client that its peer stands for is as it was kept
@@ -48,7 +48,7 @@ module _ (schemas : Schemas EditFault) (w : model.World) (live : Live) (keeps : 
 
   -- what a client that pushes has come to
   abbrev pub Pushes : Live → Type 0
-  Pushes new = (schemas : Schemas EditFault) (world : model.World) (client : Client) → Fits schemas world mid → slice_get world.clients at ≡ Some client
+  Pushes new = (schemas : WorldSchemas EditFault) (world : model.World) (client : Client) → Fits schemas world mid → slice_get world.clients at ≡ Some client
       → Fits schemas (with_pushing at (push_all client) world) new
 
   -- a client that changed has pushed
@@ -58,7 +58,7 @@ module _ (schemas : Schemas EditFault) (w : model.World) (live : Live) (keeps : 
       subst (λ (v : model.World). Fits schemas v new) (pushing_over schemas w at d (push_all d))
       (pushes schemas (with_client at d w) d (fits_client schemas w live keeps.fits at d (record one { peer = after }) mid kept room queues set) (got_at w.clients at c d made))
 
-  pub edit_done : (wanted : RecordOps) → ((schemas : Schemas EditFault) (held : Held) → peer_of.Stands schemas held one.peer → peer_of.Edits schemas held (completion schemas held wanted) after)
+  pub edit_done : (wanted : RecordOps) → ((schemas : WorldSchemas EditFault) (held : Held) → peer_of.Stands schemas held one.peer → peer_of.Edits schemas held (completion schemas held wanted) after)
       → (new : Live) → Pushes new → to_client new.queues ≡ to_client mid.queues → (lines : Vec OutLine) → lines.items ≡ [] → Answers schemas w (on_edit schemas at wanted w) (Ok lines) new
   edit_done wanted edited new pushes given lines prints =
       let it = is_there schemas w live at at one keeps.fits refl less is in
@@ -85,8 +85,8 @@ module _ (schemas : Schemas EditFault) (w : model.World) (live : Live) (keeps : 
   refused_by (Err other) fault is = let same : other ≡ fault = cc in ap (λ f. Err f) same
 
   pub edit_refused : (wanted : RecordOps) (fault : EditFault)
-      → ((schemas : Schemas EditFault) (held : Held) → peer_of.Stands schemas held one.peer → done_by (completion schemas held wanted) ≡ Err fault)
-      → ((schemas : Schemas EditFault) (held : Held) → peer_of.Stands schemas held one.peer → peer_of.Stands schemas held after)
+      → ((schemas : WorldSchemas EditFault) (held : Held) → peer_of.Stands schemas held one.peer → done_by (completion schemas held wanted) ≡ Err fault)
+      → ((schemas : WorldSchemas EditFault) (held : Held) → peer_of.Stands schemas held one.peer → peer_of.Stands schemas held after)
       → Answers schemas w (on_edit schemas at wanted w) (Err (Edit fault)) mid
   edit_refused wanted fault refuses stays =
       let it = is_there schemas w live at at one keeps.fits refl less is in

@@ -1,6 +1,6 @@
 -- What the entries of a history name, by their places.
 use Rattle.std.proofs.Common.{◌≡◌, ℕ, zero, suc, true, List, [], ◌∷◌, slice_get, Some, None, ap, subst, ◌∙◌, sym}
-use Rattle.room_model.specs.Schemas.{Schemas}
+use Rattle.room_model.specs.Schemas.{WorldSchemas}
 use Rattle.room_model.specs.Histories.{History}
 use Rattle.room_model.specs.Naming.{IsNamedBy, AllNamed}
 use Rattle.room_model.specs.Closing.{is_closed}
@@ -22,12 +22,12 @@ the_same : {X : Type 0} (x y : X) → Some x ≡ Some y → x ≡ y
 the_same x y is = cc
 
 -- what is named by an entry at a place
-named_at : (schemas : Schemas EditFault) (sessions : List Session) (history : History) → AllNamed schemas sessions history → (at : ℕ) (entry : Entry) (author : Author)
-    → slice_get history at ≡ Some entry → entry.author ≡ Some author → IsNamedBy schemas sessions author.session entry.diff
+named_at : (schemas : WorldSchemas EditFault) (sessions : List Session) (history : History) → AllNamed schemas.room sessions history → (at : ℕ) (entry : Entry) (author : Author)
+    → slice_get history at ≡ Some entry → entry.author ≡ Some author → IsNamedBy schemas.room sessions author.session entry.diff
 named_at schemas sessions [] all at entry author there by = absurd (cc)
 named_at schemas sessions (first ∷ history) all zero entry author there by =
     let same = the_same first entry there in
-    let P : Entry → Type 0 = λ e. e.author ≡ Some author → IsNamedBy schemas sessions author.session e.diff in
+    let P : Entry → Type 0 = λ e. e.author ≡ Some author → IsNamedBy schemas.room sessions author.session e.diff in
     subst P same (all.0 author) by
 named_at schemas sessions (first ∷ history) all (suc at) entry author there by = named_at schemas sessions history all.1 at entry author there by
 
@@ -45,16 +45,16 @@ module _ (code : World) where
   pub readonly : ReadonlyEditNothing code
   readonly schemas w at entry author session stands there by entered only =
       let lawful = lawful_of schemas stands.keeps.fits.tables in
-      let named = named_at schemas w.room.sessions w.room.history (reachable_names schemas lawful w.room (room_reached schemas lawful w stands.keeps.reachable)) at entry author there by in
+      let named = named_at schemas w.room.sessions w.room.history (reachable_names schemas.room lawful.room w.room (room_reached schemas lawful w stands.keeps.reachable)) at entry author there by in
       let same = the_same named.session session (sym named.entered ∙ entered) in
       named.readonly (ap (λ (s : Session). s.readonly) same ∙ only)
 
   pub authored : AuthorsNameTheirOwn code
   authored schemas w at entry author stands there by =
       let lawful = lawful_of schemas stands.keeps.fits.tables in
-      (named_at schemas w.room.sessions w.room.history (reachable_names schemas lawful w.room (room_reached schemas lawful w stands.keeps.reachable)) at entry author there by).names
+      (named_at schemas w.room.sessions w.room.history (reachable_names schemas.room lawful.room w.room (room_reached schemas lawful w stands.keeps.reachable)) at entry author there by).names
 
   pub unauthored : OthersRemovePresences code
   unauthored schemas w at entry stands there by =
       let lawful = lawful_of schemas stands.keeps.fits.tables in
-      removed_at w.room w.room.history (reachable_removals schemas w.room (room_reached schemas lawful w stands.keeps.reachable)) at entry there by
+      removed_at w.room w.room.history (reachable_removals schemas.room w.room (room_reached schemas lawful w stands.keeps.reachable)) at entry there by

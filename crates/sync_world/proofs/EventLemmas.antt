@@ -4,7 +4,7 @@ use Rattle.std.specs.Prelude.{vec_len, is_none}
 use Rattle.std.specs.Global.{Vec}
 use Rattle.std.specs.Option.{option_map_or}
 use Rattle.std.proofs.lemmas.List.{set-get_or}
-use Rattle.room_model.specs.Schemas.{Schemas, doc, records_with}
+use Rattle.room_model.specs.Schemas.{WorldSchemas, doc, records_with}
 use Rattle.room_model.specs.Rooms.{Session, session_at, after_leave, after_message, Given, next_for, after_drain}
 use Rattle.room_model.specs.Taking.{Replica}
 use Rattle.room_model.specs.Replicas.{Client, after_cut, base_of}
@@ -62,12 +62,12 @@ pub same_item : {X : Type 0} (xs : List X) (n : ℕ) (x y : X) → n < length xs
 same_item xs n x y less one other = let e = sym (got_item xs n x less one) ∙ got_item xs n y less other in cc
 
 -- who is at a place, and what is kept of it
-pub record IsThere (schemas : Schemas EditFault) (w : model.World) (n : ℕ) (one : WorldClient) : Type 0 where
+pub record IsThere (schemas : WorldSchemas EditFault) (w : model.World) (n : ℕ) (one : WorldClient) : Type 0 where
   pub client : Client
   pub made : slice_get w.clients n ≡ Some client
   pub kept : IsClient schemas w.room.history client one
 
-module _ (schemas : Schemas EditFault) (w : model.World) (live : Live) where
+module _ (schemas : WorldSchemas EditFault) (w : model.World) (live : Live) where
   pub is_there : (n at : ℕ) (one : WorldClient) → Fits schemas w live → at ≡ n → at < vec_len live.clients → one ≡ get_or live.clients.items at one → IsThere schemas w n one
   is_there n at one fits same less is =
       let there = client_there schemas w live fits at less in
@@ -79,7 +79,7 @@ module _ (schemas : Schemas EditFault) (w : model.World) (live : Live) where
 
   module _ (keeps : Keeps schemas w live) where
     -- the document in a client's base is what it has of the room's
-    pub document_is : (n : ℕ) (c : Client) → slice_get w.clients n ≡ Some c → doc schemas (replica_of schemas w.room.history c).base ≡ base_of schemas w.room.history c
+    pub document_is : (n : ℕ) (c : Client) → slice_get w.clients n ≡ Some c → doc schemas.room (replica_of schemas w.room.history c).base ≡ base_of schemas w.room.history c
     document_is n c at = (has_parts schemas (lawful_of schemas keeps.fits.tables) w n c keeps.reachable at).0
 
     module _ (n at : ℕ) (one : WorldClient) (same : at ≡ n) (less : at < vec_len live.clients) (is : one ≡ get_or live.clients.items at one) where
@@ -87,7 +87,7 @@ module _ (schemas : Schemas EditFault) (w : model.World) (live : Live) where
       cut_refused none = let it = is_there n at one keeps.fits same less is in (cuts_none w n it.client it.made (sym it.kept.session ∙ none_of one.session none), keeps)
 
       pub cut_done : is_none one.session ≡ false → (after : Peer)
-          → ((schemas : Schemas EditFault) (held : Held) → peer_of.Stands schemas held one.peer → peer_of.Stands schemas (record { base = records_with schemas.is_document held.base; client = after_cut held.client }) after)
+          → ((schemas : WorldSchemas EditFault) (held : Held) → peer_of.Stands schemas held one.peer → peer_of.Stands schemas (record { base = records_with schemas.room.is_document held.base; client = after_cut held.client }) after)
           → (lines : Vec OutLine) → lines.items ≡ [] → (new : Live) → new.room ≡ live.room → new.queues ≡ live.queues
           → new.clients.items ≡ slice_set live.clients.items at (record one { peer = after; session = None })
           → Answers schemas w (on_cut n w) (Ok lines) new
@@ -170,12 +170,12 @@ module _ (schemas : Schemas EditFault) (w : model.World) (live : Live) where
           )
 
       pub handle_done : (trace : Bool) (said : ClientMessage) (reply : Handled) (lines : Vec OutLine) → Some said ≡ slice_get (queue_at k (to_room live.queues)) 0
-          → lines.items ≡ trace_line trace (line.From k said) → (new : Live) → room_of.Replies (after_message schemas w.room k said) reply new.room
+          → lines.items ≡ trace_line trace (line.From k said) → (new : Live) → room_of.Replies (after_message schemas.room w.room k said) reply new.room
           → room_of.tree_of new.room ≡ room_of.tree_of live.room → new.clients ≡ live.clients
           → to_room new.queues ≡ without_first k (to_room live.queues) → to_client new.queues ≡ to_client live.queues
           → Answers schemas w (on_handle schemas trace k w) (Ok lines) new
       handle_done trace said reply lines first prints new replies tree clients sent given =
-          elim (after_message schemas w.room k said) as (λ o. after_message schemas w.room k said ≡ o → room_of.Replies o reply new.room → Answers schemas w (on_handle schemas trace k w) (Ok lines) new) [
+          elim (after_message schemas.room w.room k said) as (λ o. after_message schemas.room w.room k said ≡ o → room_of.Replies o reply new.room → Answers schemas w (on_handle schemas trace k w) (Ok lines) new) [
             | None ↦ λ is none. absurd none
             | Some replied ↦ λ is replies.
                 let channel = the_channel.0 in
@@ -189,11 +189,11 @@ module _ (schemas : Schemas EditFault) (w : model.World) (live : Live) where
                 given
           ] refl replies
 
-      pub send_refused : (trace : Bool) (new : Live) → room_of.Drains w.room k (next_for schemas w.room k) None new.room
+      pub send_refused : (trace : Bool) (new : Live) → room_of.Drains w.room k (next_for schemas.room w.room k) None new.room
           → room_of.tree_of new.room ≡ room_of.tree_of live.room → new.clients ≡ live.clients → new.queues ≡ live.queues
           → Answers schemas w (on_send schemas trace k w) (Err NothingThere) new
       send_refused trace new drains tree clients queues =
-          elim (next_for schemas w.room k) as (λ o. next_for schemas w.room k ≡ o → room_of.Drains w.room k o None new.room → Answers schemas w (on_send schemas trace k w) (Err NothingThere) new) [
+          elim (next_for schemas.room w.room k) as (λ o. next_for schemas.room w.room k ≡ o → room_of.Drains w.room k o None new.room → Answers schemas w (on_send schemas trace k w) (Err NothingThere) new) [
             | None ↦ λ is drains. (
               sends_nothing schemas w k s here the_channel.0 the_channel.1 trace is,
               keeps_alike new drains.1 tree (ap (λ (ks : Vec WorldClient). ks.items) clients) (ap to_room queues) (ap to_client queues),
@@ -202,12 +202,12 @@ module _ (schemas : Schemas EditFault) (w : model.World) (live : Live) where
           ] refl drains
 
       pub send_done : (trace : Bool) (out : Out) (lines : Vec OutLine) → lines.items ≡ trace_line trace (out_line k out) → (new : Live)
-          → room_of.Drains w.room k (next_for schemas w.room k) (Some out) new.room
+          → room_of.Drains w.room k (next_for schemas.room w.room k) (Some out) new.room
           → room_of.tree_of new.room ≡ room_of.tree_of live.room → new.clients ≡ live.clients
           → to_room new.queues ≡ to_room live.queues → to_client new.queues ≡ with_out k out (to_client live.queues)
           → Answers schemas w (on_send schemas trace k w) (Ok lines) new
       send_done trace out lines prints new drains tree clients sent put =
-          elim (next_for schemas w.room k) as (λ o. next_for schemas w.room k ≡ o → room_of.Drains w.room k o (Some out) new.room → Answers schemas w (on_send schemas trace k w) (Ok lines) new) [
+          elim (next_for schemas.room w.room k) as (λ o. next_for schemas.room w.room k ≡ o → room_of.Drains w.room k o (Some out) new.room → Answers schemas w (on_send schemas trace k w) (Ok lines) new) [
             | None ↦ λ is drains. absurd (let clash = drains.0 in cc)
             | Some given ↦ λ is drains.
                 let channel = the_channel.0 in

@@ -5,7 +5,7 @@ use Rattle.std.specs.Option.{option_map_or}
 use Rattle.rooms_val.specs.Data.{Data}
 use Rattle.field_ops.specs.RecordOps.{RecordOps}
 use Rattle.doc_model.specs.Marks as marks
-use Rattle.room_model.specs.Schemas.{Schemas}
+use Rattle.room_model.specs.Schemas.{WorldSchemas}
 use Rattle.room_model.specs.Rooms.{Session, Room, session_at, Notice, Replied, after_message, after_leave, Given, next_for, after_drain}
 use Rattle.room_model.specs.Replicas.{Client, new_client, session_of, is_open, edit, presence, Pushing, push_none, push_all, push_one, first_unsent, with_work, after_presence, after_cut, after_notice, schema_of}
 use Rattle.room_model.specs.Worlds.{Channel, World, with_client, with_channel, with_messages, with_pushing, Outcome, happens, at_client, at_session, trace_line, out_line, notice_lines, is_at_limit, on_join, on_cut, on_lose, deliver_first, on_deliver, ask, connect_if_allowed, on_connect, shown_in, inverse_in, take_edit, on_edit, on_presence, handle_first, on_handle, on_send, show_line, on_show}
@@ -68,7 +68,7 @@ module _ {F : Type 0} (w : World) where
   pub no_client : (n : ℕ) (next : Client → Outcome F) → slice_get w.clients n ≡ None → at_client n w next ≡ Err NoSuchClient
   no_client n next is = if_none _ (slice_get w.clients n) (Err NoSuchClient) is
 
-module _ {F : Type 0} (schemas : Schemas F) (w : World) where
+module _ {F : Type 0} (schemas : WorldSchemas F) (w : World) where
   module _ (n : ℕ) (c : Client) (at : slice_get w.clients n ≡ Some c) where
     pub shows : on_show schemas n w ≡ happens (show_line schemas n w c ∷ []) w
     shows = if_some _ (slice_get w.clients n) (Err NoSuchClient) c at
@@ -109,7 +109,7 @@ module _ {F : Type 0} (schemas : Schemas F) (w : World) where
         connects is = connects_so None allowed ∙ ap (λ b. let made : Outcome F = cond b (Err Limit) (happens [] (ask schemas n readonly w c)) in made) is
 
   module _ (k : ℕ) (s : Session) (here : session_at k w.room ≡ Some s) (channel : Channel) (there : slice_get w.channels k ≡ Some channel) where
-    pub handles : (trace : Bool) (said : ClientMessage) (messages : List ClientMessage) (replied : Replied) → channel.to_room ≡ said ∷ messages → after_message schemas w.room k said ≡ Some replied
+    pub handles : (trace : Bool) (said : ClientMessage) (messages : List ClientMessage) (replied : Replied) → channel.to_room ≡ said ∷ messages → after_message schemas.room w.room k said ≡ Some replied
         → on_handle schemas trace k w ≡ happens (trace_line trace (line.From k said)) (with_channel k (record channel { to_room = messages }) (record w { room = replied.room }))
     handles trace said messages replied first is =
         in_session w k s here channel there _ ∙ ap (handle_first schemas trace k w channel) first
@@ -118,12 +118,12 @@ module _ {F : Type 0} (schemas : Schemas F) (w : World) where
     pub handles_nothing : (trace : Bool) → channel.to_room ≡ [] → on_handle schemas trace k w ≡ Err NothingThere
     handles_nothing trace is = in_session w k s here channel there _ ∙ ap (handle_first schemas trace k w channel) is
 
-    pub sends : (trace : Bool) (given : Given) → next_for schemas w.room k ≡ Some given
+    pub sends : (trace : Bool) (given : Given) → next_for schemas.room w.room k ≡ Some given
         → on_send schemas trace k w ≡ happens (trace_line trace (out_line k given.out)) (with_channel k (record channel { to_client = channel.to_client ++ given.notice ∷ [] }) (record w { room = after_drain w.room k given }))
-    sends trace given is = in_session w k s here channel there _ ∙ if_some _ (next_for schemas w.room k) (Err NothingThere) given is
+    sends trace given is = in_session w k s here channel there _ ∙ if_some _ (next_for schemas.room w.room k) (Err NothingThere) given is
 
-    pub sends_nothing : (trace : Bool) → next_for schemas w.room k ≡ None → on_send schemas trace k w ≡ Err NothingThere
-    sends_nothing trace is = in_session w k s here channel there _ ∙ if_none _ (next_for schemas w.room k) (Err NothingThere) is
+    pub sends_nothing : (trace : Bool) → next_for schemas.room w.room k ≡ None → on_send schemas trace k w ≡ Err NothingThere
+    sends_nothing trace is = in_session w k s here channel there _ ∙ if_none _ (next_for schemas.room w.room k) (Err NothingThere) is
 
 -- a presence that is set is pushed as all that is pending is
 pub presence_pushes : (d : Data) (c : Client) → push_all (cond (is_open c.connection) (with_work (presence d) (record c { presence = Some d })) (record c { presence = Some d })) ≡ after_presence d c

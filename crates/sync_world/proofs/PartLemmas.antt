@@ -4,7 +4,7 @@ use Rattle.std.specs.Prelude.{vec_len}
 use Rattle.std.specs.Global.{Vec}
 use Rattle.std.specs.Option.{option_map_or}
 use Rattle.std.proofs.lemmas.List.{set-get_or}
-use Rattle.room_model.specs.Schemas.{Schemas}
+use Rattle.room_model.specs.Schemas.{WorldSchemas}
 use Rattle.room_model.specs.Histories.{History}
 use Rattle.room_model.specs.Rooms.{Room, session_at}
 use Rattle.room_model.specs.Replicas.{Client, new_client, session_of, Pushing, push_none, push_all}
@@ -35,7 +35,7 @@ use Rattle.sync_world.proofs.WorldLemmas.{base_alike, new_base}
 use Rattle.sync_world.proofs.KeepingLemmas.{kept_set}
 use Rattle.sync_world.proofs.OutcomeLemmas.{pushing_room, pushing_clients, pushing_none, pushing_gone, pushing_here}
 
-module _ (schemas : Schemas EditFault) where
+module _ (schemas : WorldSchemas EditFault) where
   -- what the parts are after an event that happens, if they fit the world that it makes
   pub happened : (w v : model.World) (trace : Bool) (e : Event) (old new : Live) (ls : List OutLine) (lines : Vec OutLine) → Keeps schemas w old
       → after_event schemas trace w e ≡ happens ls v → lines.items ≡ ls → Fits schemas v new → to_client new.queues ≡ queues_after schemas w (to_client old.queues) e

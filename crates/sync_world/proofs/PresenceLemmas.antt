@@ -5,7 +5,7 @@ use Rattle.std.specs.Global.{Vec}
 use Rattle.rooms_val.specs.View.{data_of}
 use Rattle.rooms_val.specs.declared.val.Val.{Val}
 use Rattle.rooms_val.specs.Data.{Data}
-use Rattle.room_model.specs.Schemas.{Schemas}
+use Rattle.room_model.specs.Schemas.{WorldSchemas}
 use Rattle.room_model.specs.Histories.{History}
 use Rattle.room_model.specs.Replicas.{Client, Pushing, presence, with_work, is_open, after_presence}
 use Rattle.room_model.specs.Worlds as model
@@ -32,7 +32,7 @@ use Rattle.sync_world.proofs.EventLemmas.{is_there}
 use Rattle.sync_world.proofs.EditLemmas.{Pushes, then_pushes, still_keeps}
 
 -- a client that set its presence is kept where one was kept that did not
-set_kept : (schemas : Schemas EditFault) (history : History) (c : Client) (one : WorldClient) (after : Peer) (d : Data) (b : Bool) → IsClient schemas history c one
+set_kept : (schemas : WorldSchemas EditFault) (history : History) (c : Client) (one : WorldClient) (after : Peer) (d : Data) (b : Bool) → IsClient schemas history c one
     → let set : Client = record c { presence = Some d } in
     peer_of.Stands schemas (record (held_of schemas history c) { client = cond b (with_work (presence d) set) set }) after
     → IsClient schemas history (cond b (with_work (presence d) set) set) (record one { peer = after })
@@ -57,11 +57,11 @@ some_refused : (o : Option EditFault) (fault : EditFault) → done_unless o ≡ 
 some_refused None fault is = absurd (cc)
 some_refused (Some other) fault is = let same : other ≡ fault = cc in ap (λ f. Some f) same
 
-module _ (schemas : Schemas EditFault) (w : model.World) (live : Live) (keeps : Keeps schemas w live) (at : ℕ) (one : WorldClient) (less : at < vec_len live.clients)
+module _ (schemas : WorldSchemas EditFault) (w : model.World) (live : Live) (keeps : Keeps schemas w live) (at : ℕ) (one : WorldClient) (less : at < vec_len live.clients)
     (is : one ≡ get_or live.clients.items at one) (after : Peer) (mid : Live) (room : mid.room ≡ live.room) (queues : mid.queues ≡ live.queues)
     (set : mid.clients.items ≡ slice_set live.clients.items at (record one { peer = after })) (val : Val) where
-  pub presence_done : ((schemas : Schemas EditFault) (held : Held) → peer_of.Stands schemas held one.peer → done_unless (refusal schemas held (data_of val)) ≡ Ok tt)
-      → ((schemas : Schemas EditFault) (held : Held) → peer_of.Stands schemas held one.peer → peer_of.Stands schemas (record held { client = with_presence (data_of val) held.client }) after)
+  pub presence_done : ((schemas : WorldSchemas EditFault) (held : Held) → peer_of.Stands schemas held one.peer → done_unless (refusal schemas held (data_of val)) ≡ Ok tt)
+      → ((schemas : WorldSchemas EditFault) (held : Held) → peer_of.Stands schemas held one.peer → peer_of.Stands schemas (record held { client = with_presence (data_of val) held.client }) after)
       → (new : Live) → Pushes schemas w live keeps at one less is after mid room queues set new → to_client new.queues ≡ to_client mid.queues → (lines : Vec OutLine) → lines.items ≡ []
       → Answers schemas w (on_presence schemas at (data_of val) w) (Ok lines) new
   presence_done fine shows new pushes given lines prints =
@@ -76,8 +76,8 @@ module _ (schemas : Schemas EditFault) (w : model.World) (live : Live) (keeps : 
       (subst (λ (p : Pushing). Fits schemas (with_pushing at p w) new) (presence_pushes d c) fits) (given ∙ ap to_client queues)
 
   pub presence_refused : (fault : EditFault)
-      → ((schemas : Schemas EditFault) (held : Held) → peer_of.Stands schemas held one.peer → done_unless (refusal schemas held (data_of val)) ≡ Err fault)
-      → ((schemas : Schemas EditFault) (held : Held) → peer_of.Stands schemas held one.peer → peer_of.Stands schemas held after)
+      → ((schemas : WorldSchemas EditFault) (held : Held) → peer_of.Stands schemas held one.peer → done_unless (refusal schemas held (data_of val)) ≡ Err fault)
+      → ((schemas : WorldSchemas EditFault) (held : Held) → peer_of.Stands schemas held one.peer → peer_of.Stands schemas held after)
       → Answers schemas w (on_presence schemas at (data_of val) w) (Err (Edit fault)) mid
   presence_refused fault refuses stays =
       let it = is_there schemas w live at at one keeps.fits refl less is in

@@ -1,7 +1,7 @@
 -- A client pushes one message after another, until it can push no more.
 use Rattle.std.proofs.Common.{◌≡◌, ℕ, suc, ◌++◌, List, [], ◌∷◌, Some, None, refl, sym, ap, subst, ◌∙◌, append-nil, append_assoc}
 use Rattle.std.specs.Prelude.{unwrap_or}
-use Rattle.room_model.specs.Schemas.{Schemas}
+use Rattle.room_model.specs.Schemas.{WorldSchemas}
 use Rattle.room_model.specs.Replicas.{Client, Pushing, push_none, next_push, push_times}
 use Rattle.side_effects.specs.declared.fault.EditFault.{EditFault}
 use Rattle.sync_msgs.specs.declared.client_message.ClientMessage.{ClientMessage}
@@ -11,12 +11,12 @@ use Rattle.sync_peer.specs.declared.peer.Peer.{Peer}
 use Rattle.sync_world.proofs.WorldLemmas.{after_those, pushed_none, pushed_one, pushes_once}
 
 -- so many pushes may follow; what a client that it stood for pushes in all is what it pushed, and what it pushes from here on
-pub record IsPushing (schemas : Schemas EditFault) (held : Held) (all left : ℕ) (messages : List ClientMessage) (peer : Peer) : Type 0 where
+pub record IsPushing (schemas : WorldSchemas EditFault) (held : Held) (all left : ℕ) (messages : List ClientMessage) (peer : Peer) : Type 0 where
   pub client : Client
   pub stands : peer_of.Stands schemas (record held { client = client }) peer
   pub rest : push_times all held.client ≡ after_those messages (push_times left client)
 
-module _ (schemas : Schemas EditFault) (held : Held) (all : ℕ) where
+module _ (schemas : WorldSchemas EditFault) (held : Held) (all : ℕ) where
   pub pushing_begins : (peer : Peer) → peer_of.Stands schemas held peer → IsPushing schemas held all all [] peer
   pushing_begins peer stands = record { client = held.client; stands = stands; rest = refl }
 

@@ -1,7 +1,7 @@
 -- What the room and the peers say of themselves.
 use Rattle.std.proofs.Common.{◌≡◌, Bool, false, cond, Some, None, refl, sym, ap, ◌∙◌}
 use Rattle.std.specs.Prelude.{slice_get, option_and_then}
-use Rattle.room_model.specs.Schemas.{Schemas, AreLawful}
+use Rattle.room_model.specs.Schemas.{WorldSchemas, AreLawfulTogether}
 use Rattle.room_model.specs.Rooms as model
 use Rattle.side_effects.specs.declared.fault.EditFault.{EditFault}
 use Rattle.peer_schemas.specs.Clients.{AreOfTables}
@@ -14,7 +14,7 @@ use Rattle.sync_room.specs.declared.session.SessionId.{SessionId}
 use Rattle.peer_schemas.proofs.ClientLemmas.{lawful}
 
 -- what the tables decide is lawful
-pub lawful_of : (schemas : Schemas EditFault) → AreOfTables schemas → AreLawful schemas
+pub lawful_of : (schemas : WorldSchemas EditFault) → AreOfTables schemas → AreLawfulTogether schemas
 lawful_of schemas tables = lawful schemas tables
 
 stays : (phase : Phase) → model.has_left (phase_of phase) ≡ false

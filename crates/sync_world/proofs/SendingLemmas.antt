@@ -1,7 +1,7 @@
 -- A client of a world pushes.
 use Rattle.std.proofs.Common.{◌≡◌, ℕ, ◌<◌, List, get_or, slice_get, slice_set, length, Option, Some, None, refl, sym, ap, ◌∙◌}
 use Rattle.std.specs.Prelude.{vec_len}
-use Rattle.room_model.specs.Schemas.{Schemas}
+use Rattle.room_model.specs.Schemas.{WorldSchemas}
 use Rattle.room_model.specs.Rooms.{Session, session_at}
 use Rattle.room_model.specs.Replicas.{Client, session_of, push_all}
 use Rattle.room_model.specs.Worlds as model
@@ -23,10 +23,10 @@ use Rattle.sync_world.proofs.PartLemmas.{client_is, fits_client, fits_pushing, p
 
 -- what a client pushes, and that its peer stands for it then
 abbrev pub HasPushed : Peer → List ClientMessage → Peer → Type 0
-HasPushed before messages after = (schemas : Schemas EditFault) (held : Held) → peer_of.Stands schemas held before
+HasPushed before messages after = (schemas : WorldSchemas EditFault) (held : Held) → peer_of.Stands schemas held before
     → (messages ≡ (push_all held.client).messages) × peer_of.Stands schemas (record held { client = (push_all held.client).client }) after
 
-module _ (schemas : Schemas EditFault) (w : model.World) (live : Live) (fits : Fits schemas w live) (at : ℕ) (c : Client) (one : WorldClient) (less : at < vec_len live.clients)
+module _ (schemas : WorldSchemas EditFault) (w : model.World) (live : Live) (fits : Fits schemas w live) (at : ℕ) (c : Client) (one : WorldClient) (less : at < vec_len live.clients)
     (made : slice_get w.clients at ≡ Some c) (is : one ≡ get_or live.clients.items at one) where
   kept : IsClient schemas w.room.history c one
   kept = client_is schemas w live fits at c one less made is

@@ -6,7 +6,7 @@ use Rattle.rooms_val.specs.declared.val.Val.{Val}
 use Rattle.rooms_val.specs.declared.val.Val.TheVariants as v
 use Rattle.rooms_val.proofs.DataLemmas.{pairs_of-members_of, val_of-data_of}
 use Rattle.doc_model.specs.Documents.{replay}
-use Rattle.room_model.specs.Schemas.{Schemas}
+use Rattle.room_model.specs.Schemas.{WorldSchemas}
 use Rattle.room_model.specs.Replicas.{Client, schema_of, pending_diffs, others}
 use Rattle.room_model.specs.Worlds as model
 use Rattle.room_model.specs.Worlds.{map_val, shown_in}
@@ -23,7 +23,7 @@ use Rattle.sync_world.proofs.RoomPeerLemmas.{lawful_of}
 pub map_is : (x : Val) (m : Pairs) → data_of x ≡ map (members_of m) → x ≡ map_val m
 map_is x m is = sym (val_of-data_of x) ∙ ap val_of is ∙ ap (λ pairs. v.Map pairs) (pairs_of-members_of m)
 
-module _ (schemas : Schemas EditFault) (w : model.World) (live : Live) (keeps : Keeps schemas w live) (n : ℕ) (c : Client) (at : slice_get w.clients n ≡ Some c) where
+module _ (schemas : WorldSchemas EditFault) (w : model.World) (live : Live) (keeps : Keeps schemas w live) (n : ℕ) (c : Client) (at : slice_get w.clients n ≡ Some c) where
   -- a peer shows what its client shows
   pub shown_is : shown schemas (held_of schemas w.room.history c) ≡ shown_in schemas w c
   shown_is = ap (λ b. replay (schema_of schemas c).admits b (pending_diffs c)) (document_is schemas w live keeps n c at)

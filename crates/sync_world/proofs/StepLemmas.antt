@@ -2,7 +2,7 @@
 use Rattle.std.proofs.Common.{◌≡◌, ℕ, List, Bool, slice_get, Some, Ok, Err, OnOk, Result, refl, ap, subst}
 use Rattle.std.specs.Global.{Vec}
 use Rattle.rooms_val.specs.Data.{Pairs}
-use Rattle.room_model.specs.Schemas.{Schemas}
+use Rattle.room_model.specs.Schemas.{WorldSchemas}
 use Rattle.room_model.specs.Replicas.{Client}
 use Rattle.room_model.specs.Worlds as model
 use Rattle.room_model.specs.Worlds.{Outcome, shown_in, after_event}
@@ -23,7 +23,7 @@ use Rattle.sync_world.specs.declared.world.World.{World}
 use Rattle.sync_world.proofs.RoomPeerLemmas.{lawful_of}
 
 -- a world is spent exactly by the answer that memory ran out
-pub steps_to : (schemas : Schemas EditFault) (w : model.World) (outcome : Outcome EditFault) (answer : Result (Vec OutLine) (StepFault EditFault)) (live : Live)
+pub steps_to : (schemas : WorldSchemas EditFault) (w : model.World) (outcome : Outcome EditFault) (answer : Result (Vec OutLine) (StepFault EditFault)) (live : Live)
     → Answers schemas w outcome answer live → StepsTo schemas w outcome answer (record { live = live; spent = is_spent answer })
 steps_to schemas w outcome (Ok lines) live h = (h.0, h.1, h.2, record { going = refl; keeps = h.3 })
 steps_to schemas w outcome (Err NoSuchClient) live h = (h.0, record { going = refl; keeps = h.1 })
@@ -36,7 +36,7 @@ steps_to schemas w outcome (Err Limit) live h = (h.0, record { going = refl; kee
 steps_to schemas w outcome (Err OutOfMemory) live h = refl
 
 -- what goes back to a mark shows again what the client showed when it made it
-shows_again : (schemas : Schemas EditFault) → AreOfTables schemas → (trace : Bool) (w : model.World) (number : ℕ) (name : List ℕ) (before : Pairs) (made : model.Stepped) (after : Client) (e : Event)
+shows_again : (schemas : WorldSchemas EditFault) → AreOfTables schemas → (trace : Bool) (w : model.World) (number : ℕ) (name : List ℕ) (before : Pairs) (made : model.Stepped) (after : Client) (e : Event)
     → IsSinceMark schemas number name before w → GoesBack schemas w number name before e → after_event schemas trace w e ≡ Ok made → slice_get made.world.clients number ≡ Some after
     → shown_in schemas made.world after ≡ before
 shows_again schemas tables trace w number name before made after (event.Bail client other) since goes is there =
@@ -51,8 +51,8 @@ shows_again schemas tables trace w number name before made after (event.Undo cli
 shows_again schemas tables trace w number name before made after other since goes is there = absurd goes
 
 pub goes_back : (trace : Bool) (e : Event) (old : World) (live : Live) (spent : Bool) (answer : Result (Vec OutLine) (StepFault EditFault)) → spent ≡ is_spent answer
-    → ((schemas : Schemas EditFault) (w : model.World) → Keeps schemas w old.live → Answers schemas w (after_event schemas trace w e) answer live)
-    → OnOk answer ((schemas : Schemas EditFault) (w : model.World) (number : ℕ) (name : List ℕ) (before : Pairs) → Stands schemas w old → IsSinceMark schemas number name before w
+    → ((schemas : WorldSchemas EditFault) (w : model.World) → Keeps schemas w old.live → Answers schemas w (after_event schemas trace w e) answer live)
+    → OnOk answer ((schemas : WorldSchemas EditFault) (w : model.World) (number : ℕ) (name : List ℕ) (before : Pairs) → Stands schemas w old → IsSinceMark schemas number name before w
     → GoesBack schemas w number name before e → Shows schemas number before (record { live = live; spent = spent }))
 goes_back trace e old live spent (Err fault) going answers = tt
 goes_back trace e old live spent (Ok lines) going answers = λ schemas w number name before stands since goes.

@@ -5,7 +5,7 @@ use Rattle.std.specs.Option.{option_map_or, option_or}
 use Rattle.std.specs.Str.{bytes_eq}
 use Rattle.std.proofs.lemmas.Slice.Eq.{bytes_eq-Decides}
 use Rattle.std.proofs.Math.Dec.{eqb_refl}
-use Rattle.room_model.specs.Schemas.{Schemas}
+use Rattle.room_model.specs.Schemas.{WorldSchemas}
 use Rattle.room_model.specs.Histories.{History}
 use Rattle.room_model.specs.Rooms.{Room, Notice, snapshot_at, updates_between, pong, end}
 use Rattle.room_model.specs.Replicas.{Pending, Client, push_all, after_updates, after_notice, schema_of}
@@ -70,11 +70,11 @@ arrived history k c (updates_between from to) = after_updates history k from to 
 arrived history k c pong = c
 arrived history k c (end reason) = c
 
-module _ {F : Type 0} (schemas : Schemas F) (room : Room) (c : Client) (k : ℕ) where
+module _ {F : Type 0} (schemas : WorldSchemas F) (room : Room) (c : Client) (k : ℕ) where
   -- it is the client with its base after the message that the notice tells
   pub arrives : (said : ServerMessage) (notice : Notice) → Message said ≡ told.told schemas room c k notice → IsExpected c k (Message said)
       → IsTaken schemas room.history c (Message said) (after_notice room.history k c notice).client
-      → after_message (schema_of schemas c).admits schemas.is_document (held_of schemas room.history c) said ≡ held_of schemas room.history (arrived room.history k c notice)
+      → after_message (schema_of schemas c).admits schemas.room.is_document (held_of schemas room.history c) said ≡ held_of schemas room.history (arrived room.history k c notice)
   arrives (message.Connect hydration request protocol versions diff clock readonly) (snapshot_at at) is expected taken =
       let after : Client = answered k at c in
       let pushed = snapshot_same k at c in

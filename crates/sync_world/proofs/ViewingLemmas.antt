@@ -3,7 +3,7 @@ use Rattle.std.proofs.Common.{◌≡◌, ◌≢◌, ℕ, zero, suc, ◌<◌, Lis
 use Rattle.std.specs.Prelude.{vec_len, OnOk, OnErr}
 use Rattle.std.specs.Vec.{with_item}
 use Rattle.record_store.specs.Seen.{Seen, begun}
-use Rattle.room_model.specs.Schemas.{Schemas}
+use Rattle.room_model.specs.Schemas.{WorldSchemas}
 use Rattle.room_model.specs.Worlds as model
 use Rattle.room_model.specs.Worlds.{with_client}
 use Rattle.side_effects.specs.declared.fault.EditFault.{EditFault}
@@ -91,7 +91,7 @@ module _ (live : Live) (at : ℕ) (one other : WorldClient) (less : at < vec_len
   had = store_there live.clients.items at one is_at
 
 -- a world still stands for what it stood for where a peer does
-pub still_stands : (schemas : Schemas EditFault) (world : model.World) (code : World) (n : ℕ) (one : WorldClient) (peer : Peer)
+pub still_stands : (schemas : WorldSchemas EditFault) (world : model.World) (code : World) (n : ℕ) (one : WorldClient) (peer : Peer)
     → n < vec_len code.live.clients → one ≡ get_or code.live.clients.items n one
     → ((held : Held) → peer_of.Stands schemas held one.peer → peer_of.Stands schemas held peer) → Stands schemas world code
     → Stands schemas world (record code { live = record code.live { clients = with_item code.live.clients n (record one { peer = peer }) } })

@@ -3,7 +3,7 @@ use Rattle.std.proofs.Common.{◌≡◌, ℕ, zero, suc, ◌<◌, ◌++◌, List
 use Rattle.std.specs.Prelude.{option_and_then}
 use Rattle.std.specs.Option.{option_map_or}
 use Rattle.std.proofs.lemmas.Option.{slice_get_within}
-use Rattle.room_model.specs.Schemas.{Schemas, Plan, doc, records_with}
+use Rattle.room_model.specs.Schemas.{WorldSchemas, Plan, doc, records_with}
 use Rattle.room_model.specs.Histories.{History, records_of, up_to}
 use Rattle.room_model.specs.Bases.{is_told}
 use Rattle.room_model.specs.Rooms.{Session, Room, session_at, unless_left}
@@ -20,7 +20,7 @@ use Rattle.world_laws.proofs.SessionLemmas.{sessions_stand}
 use Rattle.sync_world.specs.Sending.{sent_in, sent_by}
 use Rattle.sync_world.proofs.ListLemmas.{got_some}
 
-module _ {F : Type 0} (schemas : Schemas F) where
+module _ {F : Type 0} (schemas : WorldSchemas F) where
   -- nothing is seen of nothing
   nothing_seen : (plan : Result Plan EndReason) → seen_by schemas plan [] ≡ []
   nothing_seen (Ok plan) = refl
@@ -28,13 +28,13 @@ module _ {F : Type 0} (schemas : Schemas F) where
 
   -- the base of a client that did nothing is empty
   pub new_base : (history : History) (version : ℕ) → (replica_of schemas history (new_client version)).base ≡ []
-  new_base history version = nothing_seen (schemas.plan_for (schemas.client version).versions)
+  new_base history version = nothing_seen (schemas.room.plan_for (schemas.client version).versions)
 
   module _ (history : History) (c d : Client) (version : d.version ≡ c.version) (reached : d.reached ≡ c.reached) where
     alike_by : (k : Connection) → base_by schemas history d k ≡ base_by schemas history c k
-    alike_by Off = λ i. seen_by schemas (schemas.plan_for (schemas.client (version i)).versions) (doc schemas (records_of (up_to (reached i) history)))
-    alike_by (Asking k) = λ i. seen_by schemas (schemas.plan_for (schemas.client (version i)).versions) (doc schemas (records_of (up_to (reached i) history)))
-    alike_by (Open k) = λ i. seen_by schemas (schemas.plan_for (schemas.client (version i)).versions) (records_with (is_told schemas k) (records_of (up_to (reached i) history)))
+    alike_by Off = λ i. seen_by schemas (schemas.room.plan_for (schemas.client (version i)).versions) (doc schemas.room (records_of (up_to (reached i) history)))
+    alike_by (Asking k) = λ i. seen_by schemas (schemas.room.plan_for (schemas.client (version i)).versions) (doc schemas.room (records_of (up_to (reached i) history)))
+    alike_by (Open k) = λ i. seen_by schemas (schemas.room.plan_for (schemas.client (version i)).versions) (records_with (is_told schemas.room k) (records_of (up_to (reached i) history)))
 
     -- clients of one version that have reached one clock on one session have one base
     pub base_alike : d.connection ≡ c.connection → (replica_of schemas history d).base ≡ (replica_of schemas history c).base

@@ -1,7 +1,7 @@
 -- How a world answers an event.
 use Rattle.std.specs.Prelude.{◌≡◌, Bool, true, false, Result, Ok, Err}
 use Rattle.std.specs.Global.{Vec}
-use Rattle.room_model.specs.Schemas.{Schemas}
+use Rattle.room_model.specs.Schemas.{WorldSchemas}
 use Rattle.room_model.specs.Worlds as model
 use Rattle.room_model.specs.Worlds.{Outcome, Stepped}
 use Rattle.room_model.specs.declared.fault.StepFault.{StepFault}
@@ -14,16 +14,16 @@ use Rattle.sync_world.specs.declared.world.World.{World}
 
 -- the answer is that of what can happen: its lines, and the parts stand for the next world; or its fault, and they stand for what they
 -- stood for
-abbrev pub Answers : Schemas EditFault → model.World → Outcome EditFault → Result (Vec OutLine) (StepFault EditFault) → Live → Type 0
+abbrev pub Answers : WorldSchemas EditFault → model.World → Outcome EditFault → Result (Vec OutLine) (StepFault EditFault) → Live → Type 0
 Answers schemas world outcome (Ok lines) live = (made : Stepped) × (outcome ≡ Ok made) × (lines.items ≡ made.lines) × Keeps schemas made.world live
 Answers schemas world outcome (Err fault) live = (outcome ≡ Err fault) × Keeps schemas world live
 
 -- the event is refused for this fault, and the world stands for what it stood for
-abbrev pub Refuses : Schemas EditFault → model.World → Outcome EditFault → StepFault EditFault → World → Type 0
+abbrev pub Refuses : WorldSchemas EditFault → model.World → Outcome EditFault → StepFault EditFault → World → Type 0
 Refuses schemas world outcome fault code = (outcome ≡ Err fault) × Stands schemas world code
 
 -- the same with want of memory, after which nothing more is said of the world
-abbrev pub Faults : Schemas EditFault → model.World → Outcome EditFault → StepFault EditFault → World → Type 0
+abbrev pub Faults : WorldSchemas EditFault → model.World → Outcome EditFault → StepFault EditFault → World → Type 0
 Faults schemas world outcome NoSuchClient code = Refuses schemas world outcome NoSuchClient code
 Faults schemas world outcome NoSuchSession code = Refuses schemas world outcome NoSuchSession code
 Faults schemas world outcome NothingThere code = Refuses schemas world outcome NothingThere code
@@ -39,6 +39,6 @@ is_spent (Err OutOfMemory) = true
 is_spent other = false
 
 -- the answer of a step
-abbrev pub StepsTo : Schemas EditFault → model.World → Outcome EditFault → Result (Vec OutLine) (StepFault EditFault) → World → Type 0
+abbrev pub StepsTo : WorldSchemas EditFault → model.World → Outcome EditFault → Result (Vec OutLine) (StepFault EditFault) → World → Type 0
 StepsTo schemas world outcome (Ok lines) code = (made : Stepped) × (outcome ≡ Ok made) × (lines.items ≡ made.lines) × Stands schemas made.world code
 StepsTo schemas world outcome (Err fault) code = Faults schemas world outcome fault code

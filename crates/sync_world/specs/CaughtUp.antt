@@ -1,7 +1,7 @@
 -- What a client shows that has caught up with the room.
 use Rattle.std.specs.Prelude.{◌≡◌, ℕ, pos, [], length, slice_get, Some, Ok}
 use Rattle.rooms_val.specs.Data.{Pairs}
-use Rattle.room_model.specs.Schemas.{Schemas, Plan, doc, seen_along}
+use Rattle.room_model.specs.Schemas.{WorldSchemas, Plan, doc, seen_along}
 use Rattle.room_model.specs.Histories.{records_of}
 use Rattle.room_model.specs.Replicas.{Client, pending_diffs, plan_of}
 use Rattle.room_model.specs.Worlds as model
@@ -17,14 +17,14 @@ pub record HasCaughtUp (world : model.World) (client : Client) : Type 0 where
   pub reached : client.reached ≡ pos (length world.room.history)
 
 -- a document is the room's, seen at the version of a client
-pub record IsOfRoom (schemas : Schemas EditFault) (world : model.World) (client : Client) (document : Pairs) : Type 0 where
+pub record IsOfRoom (schemas : WorldSchemas EditFault) (world : model.World) (client : Client) (document : Pairs) : Type 0 where
   pub plan : Plan
   pub leads : plan_of schemas client ≡ Ok plan
-  pub seen : document ≡ seen_along schemas plan (doc schemas (records_of world.room.history))
+  pub seen : document ≡ seen_along schemas.room plan (doc schemas.room (records_of world.room.history))
 
 -- the peer of each client that has caught up shows the room's document, seen at the client's version
 abbrev pub CaughtUpShowTheRoom : World → Type 0
 CaughtUpShowTheRoom code =
-    (schemas : Schemas EditFault) (world : model.World) (number : ℕ) (client : Client) (kept : WorldClient)
+    (schemas : WorldSchemas EditFault) (world : model.World) (number : ℕ) (client : Client) (kept : WorldClient)
     → Stands schemas world code → slice_get world.clients number ≡ Some client → slice_get code.live.clients.items number ≡ Some kept
     → HasCaughtUp world client → IsOfRoom schemas world client (peers.records_of kept.peer.client.replica.store)

@@ -1,7 +1,7 @@
 -- What the entries of the room's history name, and whose they are.
 use Rattle.std.specs.Prelude.{◌≡◌, ℕ, slice_get, true, not, ◌||◌, Some, None}
 use Rattle.std.specs.List.{list_all}
-use Rattle.room_model.specs.Schemas.{Schemas, is_own}
+use Rattle.room_model.specs.Schemas.{WorldSchemas, is_own}
 use Rattle.room_model.specs.Closing.{is_closed}
 use Rattle.room_model.specs.Rooms.{Session, removal}
 use Rattle.room_model.specs.Worlds as model
@@ -14,21 +14,21 @@ use Rattle.sync_world.specs.declared.world.World.{World}
 -- an entry of a read-only session names no id of the document
 abbrev pub ReadonlyEditNothing : World → Type 0
 ReadonlyEditNothing code =
-    (schemas : Schemas EditFault) (world : model.World) (at : ℕ) (entry : Entry) (author : Author) (session : Session)
+    (schemas : WorldSchemas EditFault) (world : model.World) (at : ℕ) (entry : Entry) (author : Author) (session : Session)
     → Stands schemas world code → slice_get world.room.history at ≡ Some entry → entry.author ≡ Some author
     → slice_get world.room.sessions author.session ≡ Some session → session.readonly ≡ true
-    → list_all (λ c. not (schemas.is_document c.0)) entry.diff ≡ true
+    → list_all (λ c. not (schemas.room.is_document c.0)) entry.diff ≡ true
 
 -- an entry with an author names ids of the document and the presence of the author's own session alone
 abbrev pub AuthorsNameTheirOwn : World → Type 0
 AuthorsNameTheirOwn code =
-    (schemas : Schemas EditFault) (world : model.World) (at : ℕ) (entry : Entry) (author : Author)
+    (schemas : WorldSchemas EditFault) (world : model.World) (at : ℕ) (entry : Entry) (author : Author)
     → Stands schemas world code → slice_get world.room.history at ≡ Some entry → entry.author ≡ Some author
-    → list_all (λ c. schemas.is_document c.0 || is_own author.session c.0) entry.diff ≡ true
+    → list_all (λ c. schemas.room.is_document c.0 || is_own author.session c.0) entry.diff ≡ true
 
 -- an entry without author removes the presence of a session that was ended or has left
 abbrev pub OthersRemovePresences : World → Type 0
 OthersRemovePresences code =
-    (schemas : Schemas EditFault) (world : model.World) (at : ℕ) (entry : Entry)
+    (schemas : WorldSchemas EditFault) (world : model.World) (at : ℕ) (entry : Entry)
     → Stands schemas world code → slice_get world.room.history at ≡ Some entry → entry.author ≡ None
     → (session : ℕ) × (entry ≡ removal session) × (is_closed world.room session ≡ true)

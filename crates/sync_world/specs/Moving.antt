@@ -1,6 +1,6 @@
 -- What moves between clients and the room while an event happens.
 use Rattle.std.specs.Prelude.{◌≡◌, ℕ, nat_le, [], ◌∷◌, ◌++◌, Bool, true, false, ◌||◌, Some}
-use Rattle.room_model.specs.Schemas.{Schemas}
+use Rattle.room_model.specs.Schemas.{WorldSchemas}
 use Rattle.room_model.specs.Rooms.{Room, Notice, is_full, after_enter}
 use Rattle.room_model.specs.Replicas.{Client, session_of, after_notice}
 use Rattle.room_model.specs.Worlds as model
@@ -37,7 +37,7 @@ Enters session readonly request state true before after = (has_no_place session 
 Enters session readonly request state false before after = (has_no_place session state ≡ true) × HasStayed state before after
 
 -- what a client is given on its session is what the notice tells; the client expects it, and comes by it to where the notice leads
-pub record IsDelivery (schemas : Schemas EditFault) (world : model.World) (client : Client) (k : ℕ) (given : Out) (notice : Notice) : Type 0 where
+pub record IsDelivery (schemas : WorldSchemas EditFault) (world : model.World) (client : Client) (k : ℕ) (given : Out) (notice : Notice) : Type 0 where
   pub session : session_of client.connection ≡ Some k
   pub told : given ≡ told schemas world.room client k notice
   pub expected : IsExpected client k given

@@ -4,7 +4,7 @@ use Rattle.rooms_val.specs.Data.{Pairs}
 use Rattle.field_ops.specs.RecordOps.{RecordOps}
 use Rattle.doc_model.specs.Marks.{Item, mark, inverse, undo_diff, bail_diff}
 use Rattle.doc_model.specs.Restoring.{AreBackAdmitted}
-use Rattle.room_model.specs.Schemas.{Schemas}
+use Rattle.room_model.specs.Schemas.{WorldSchemas}
 use Rattle.room_model.specs.Replicas.{Client, schema_of}
 use Rattle.room_model.specs.Worlds as model
 use Rattle.room_model.specs.Worlds.{shown_in}
@@ -15,7 +15,7 @@ use Rattle.sync_world.specs.Standing.{Stands}
 use Rattle.sync_world.specs.declared.world.World.{World}
 
 -- a client bails to a mark, by a diff whose patches are to bring back admitted records
-pub record Bails (schemas : Schemas EditFault) (world : model.World) (number : ℕ) (name : List ℕ) (before : Pairs) : Type 0 where
+pub record Bails (schemas : WorldSchemas EditFault) (world : model.World) (number : ℕ) (name : List ℕ) (before : Pairs) : Type 0 where
   pub client : Client
   pub there : slice_get world.clients number ≡ Some client
   pub diff : RecordOps
@@ -23,7 +23,7 @@ pub record Bails (schemas : Schemas EditFault) (world : model.World) (number : �
   pub admitted : AreBackAdmitted (schema_of schemas client).admits diff before
 
 -- the same of an undo, where some inverse and no mark stands after that mark
-pub record Undoes (schemas : Schemas EditFault) (world : model.World) (number : ℕ) (name : List ℕ) (before : Pairs) : Type 0 where
+pub record Undoes (schemas : WorldSchemas EditFault) (world : model.World) (number : ℕ) (name : List ℕ) (before : Pairs) : Type 0 where
   pub client : Client
   pub there : slice_get world.clients number ≡ Some client
   pub earlier : List Item
@@ -35,13 +35,13 @@ pub record Undoes (schemas : Schemas EditFault) (world : model.World) (number : 
   pub admitted : AreBackAdmitted (schema_of schemas client).admits diff before
 
 -- an event goes back to a client's mark of a name
-abbrev pub GoesBack : Schemas EditFault → model.World → ℕ → List ℕ → Pairs → Event → Type 0
+abbrev pub GoesBack : WorldSchemas EditFault → model.World → ℕ → List ℕ → Pairs → Event → Type 0
 GoesBack schemas world number name before (event.Bail client other) = (client ≡ number) × (other ≡ name) × Bails schemas world number name before
 GoesBack schemas world number name before (event.Undo client) = (client ≡ number) × Undoes schemas world number name before
 GoesBack schemas world number name before other = ⊥
 
 -- a client shows a document, in a world for which the code's stands
-pub record Shows (schemas : Schemas EditFault) (number : ℕ) (document : Pairs) (code : World) : Type 0 where
+pub record Shows (schemas : WorldSchemas EditFault) (number : ℕ) (document : Pairs) (code : World) : Type 0 where
   pub world : model.World
   pub stands : Stands schemas world code
   pub shows : (client : Client) → slice_get world.clients number ≡ Some client → shown_in schemas world client ≡ document

@@ -1,7 +1,7 @@
 -- For which worlds of the definitions a world of the code stands: it keeps each client's base in place of the history that the base
 -- folds, and messages in place of the notices that they tell.
 use Rattle.std.specs.Prelude.{◌≡◌, ℕ, false}
-use Rattle.room_model.specs.Schemas.{Schemas}
+use Rattle.room_model.specs.Schemas.{WorldSchemas}
 use Rattle.room_model.specs.Histories.{History}
 use Rattle.room_model.specs.Replicas.{Client, session_of}
 use Rattle.room_model.specs.Worlds as model
@@ -20,12 +20,12 @@ use Rattle.sync_world.specs.declared.live.WorldClient.{WorldClient}
 use Rattle.sync_world.specs.declared.world.World.{World}
 
 -- what is kept of a client: a peer that stands for it, and its session
-pub record IsClient (schemas : Schemas EditFault) (history : History) (client : Client) (kept : WorldClient) : Type 0 where
+pub record IsClient (schemas : WorldSchemas EditFault) (history : History) (client : Client) (kept : WorldClient) : Type 0 where
   pub peer : peer_of.Stands schemas (held_of schemas history client) kept.peer
   pub session : kept.session ≡ session_of client.connection
 
 -- a world's parts stand for those of one of the definitions, but for what is in flight to clients; also while an event happens
-pub record Fits (schemas : Schemas EditFault) (world : model.World) (live : Live) : Type 0 where
+pub record Fits (schemas : WorldSchemas EditFault) (world : model.World) (live : Live) : Type 0 where
   -- the tables decide, and the room by its own schema
   pub tables : AreOfTables schemas
   pub decided : schemas ≡ schemas_of (room_of.tree_of live.room)
@@ -35,16 +35,16 @@ pub record Fits (schemas : Schemas EditFault) (world : model.World) (live : Live
   pub sent : to_room live.queues ≡ sent_by world.channels
 
 -- between events: the world can be reached, and in flight to each client is what the notices tell
-pub record Keeps (schemas : Schemas EditFault) (world : model.World) (live : Live) : Type 0 where
+pub record Keeps (schemas : WorldSchemas EditFault) (world : model.World) (live : Live) : Type 0 where
   pub reachable : ReachableWorld schemas world
   pub fits : Fits schemas world live
   pub given : AreQueues schemas world (to_client live.queues)
 
 -- a world whose memory never ran out stands for one of the definitions
-pub record Stands (schemas : Schemas EditFault) (world : model.World) (code : World) : Type 0 where
+pub record Stands (schemas : WorldSchemas EditFault) (world : model.World) (code : World) : Type 0 where
   pub going : code.spent ≡ false
   pub keeps : Keeps schemas world code.live
 
 -- schemas are those of the tables, and the room's is at a version
-abbrev pub IsAtVersion : ℕ → Schemas EditFault → Type 0
+abbrev pub IsAtVersion : ℕ → WorldSchemas EditFault → Type 0
 IsAtVersion version schemas = (tables : AreOfTables schemas) × (tables.version ≡ version)

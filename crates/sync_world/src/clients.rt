@@ -1,7 +1,7 @@
 //! What clients do by themselves: they join, edit, set their presence, and lose their connection.
 ghost use Rattle.std.specs.Prelude.{◌≡◌, ◌≢◌, [], IfOk, OnOk, Err};
 ghost use Rattle.rooms_val.specs.View.{data_of};
-ghost use Rattle.room_model.specs.Schemas.{Schemas};
+ghost use Rattle.room_model.specs.Schemas.{WorldSchemas};
 ghost use Rattle.room_model.specs.Replicas.{new_client};
 ghost use Rattle.room_model.specs.Worlds as model;
 ghost use Rattle.room_model.specs.Worlds.{on_join, on_edit, on_presence, on_cut};
@@ -30,7 +30,8 @@ impl Live {
     // A client of a version joins, with the next number.
     pub(crate) fn join(&mut self, alloc: Global, version: u32) -> Mem<Answer>
         requires { IsVersion version }
-        ensures step { IfOk result (λ answer. (schemas : Schemas EditFault) (world : model.World)
+        ensures step { IfOk result (λ answer. (schemas : WorldSchemas EditFault)
+            (world : model.World)
             → Keeps schemas world self.old
             → Answers schemas world (on_join version world) answer self.new) }
         ensures stores { OnOk result (MayJoin (stores_in self.old) (stores_in self.new)) }
@@ -55,7 +56,8 @@ impl Live {
         wanted: &Diff,
         steps: &mut Steps<L>,
     ) -> Mem<Answer>
-        ensures step { IfOk result (λ answer. (schemas : Schemas EditFault) (world : model.World)
+        ensures step { IfOk result (λ answer. (schemas : WorldSchemas EditFault)
+            (world : model.World)
             → Keeps schemas world self.old
             → Answers schemas world (on_edit schemas number wanted.now world) answer self.new) }
         ensures stores { OnOk result (ChangesOne number (stores_in self.old) (stores_in self.new)) }
@@ -74,7 +76,8 @@ impl Live {
 
     // A client sets the record by which others see it.
     pub(crate) fn presence(&mut self, alloc: Global, number: u64, record_: Val) -> Mem<Answer>
-        ensures step { IfOk result (λ answer. (schemas : Schemas EditFault) (world : model.World)
+        ensures step { IfOk result (λ answer. (schemas : WorldSchemas EditFault)
+            (world : model.World)
             → Keeps schemas world self.old
             → Answers schemas world (on_presence schemas number (data_of record_) world) answer
             self.new) }
@@ -94,7 +97,8 @@ impl Live {
 
     // A client learns that its connection is lost; the room doesn't.
     pub(crate) fn cut(&mut self, alloc: Global, number: u64) -> Answer
-        ensures step { (schemas : Schemas EditFault) (world : model.World) → Keeps schemas world self.old
+        ensures step { (schemas : WorldSchemas EditFault) (world : model.World)
+            → Keeps schemas world self.old
             → Answers schemas world (on_cut number world) result self.new }
         ensures stores { stores_in self.new ≡ stores_in self.old }
     {
@@ -114,7 +118,7 @@ impl Live {
 // A client of a version that did nothing.
 fn new_peer(alloc: Global, version: u32) -> Mem<Peer>
     requires { IsVersion version }
-    ensures stands { IfOk result (λ peer. (schemas : Schemas EditFault) → AreOfTables schemas
+    ensures stands { IfOk result (λ peer. (schemas : WorldSchemas EditFault) → AreOfTables schemas
         → peer_of.Stands schemas (record { base = []; client = new_client version }) peer) }
     ensures unwatched { IfOk result (λ peer. IsUnwatched (store_of peer)) }
 {

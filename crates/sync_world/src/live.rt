@@ -1,6 +1,6 @@
 //! The parts of a world, and which event each part takes.
 ghost use Rattle.std.specs.Prelude.{◌≡◌, ◌<◌, ◌≤◌, ◌∷◌, [], ℕ, Bool, Some, None, IfOk, OnOk, IfSome, IfNone, slice_get, vec_len};
-ghost use Rattle.room_model.specs.Schemas.{Schemas};
+ghost use Rattle.room_model.specs.Schemas.{WorldSchemas};
 ghost use Rattle.room_model.specs.Replicas.{Client, push_all};
 ghost use Rattle.room_model.specs.Worlds as model;
 ghost use Rattle.room_model.specs.Worlds.{with_pushing, after_event};
@@ -58,7 +58,8 @@ impl Live {
         steps: &mut Steps<L>,
     ) -> Mem<Answer>
         requires { IsPlayed event }
-        ensures step { IfOk result (λ answer. (schemas : Schemas EditFault) (world : model.World)
+        ensures step { IfOk result (λ answer. (schemas : WorldSchemas EditFault)
+            (world : model.World)
             → Keeps schemas world self.old
             → Answers schemas world (after_event schemas trace world event) answer self.new) }
         ensures stores { OnOk result (KeepsStores event (stores_in self.old) (stores_in self.new)) }
@@ -99,7 +100,7 @@ impl Live {
     // the room, or it has none. Where memory is refused nothing is said of the world.
     pub(crate) fn push(&mut self, alloc: Global, at: usize) -> Mem<()>
         requires { at < vec_len self.old.clients }
-        ensures pushed { OnOk result ((schemas : Schemas EditFault) (world : model.World)
+        ensures pushed { OnOk result ((schemas : WorldSchemas EditFault) (world : model.World)
             (client : Client)
             → Fits schemas world self.old → slice_get world.clients at ≡ Some client
             → Fits schemas (with_pushing at (push_all client) world) self.new) }
@@ -120,7 +121,7 @@ impl Live {
 
 // What a client can push, the oldest first. Where memory is refused nothing is said of the client.
 fn pushes(alloc: Global, peer: &mut Peer) -> Mem<Vec<ClientMessage>>
-    ensures pushes { IfOk result (λ messages. (schemas : Schemas EditFault) (held : Held)
+    ensures pushes { IfOk result (λ messages. (schemas : WorldSchemas EditFault) (held : Held)
         → peer_of.Stands schemas held peer.old
         → (messages.items ≡ (push_all held.client).messages)
         × peer_of.Stands schemas (record held {

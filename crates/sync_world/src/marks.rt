@@ -1,6 +1,6 @@
 //! What clients take back, and do again.
 ghost use Rattle.std.specs.Prelude.{◌≡◌, ◌<◌, IfOk, OnOk, Some, slice_get, vec_len};
-ghost use Rattle.room_model.specs.Schemas.{Schemas};
+ghost use Rattle.room_model.specs.Schemas.{WorldSchemas};
 ghost use Rattle.room_model.specs.Replicas.{Client};
 ghost use Rattle.room_model.specs.Worlds as model;
 ghost use Rattle.room_model.specs.Worlds.{with_pushing, on_mark, on_undo, on_redo, on_bail};
@@ -23,7 +23,8 @@ use undo_marks::BailFault;
 impl Live {
     // A client makes a mark.
     pub(crate) fn mark(&mut self, alloc: Global, number: u64, name: Text) -> Mem<Answer>
-        ensures step { IfOk result (λ answer. (schemas : Schemas EditFault) (world : model.World)
+        ensures step { IfOk result (λ answer. (schemas : WorldSchemas EditFault)
+            (world : model.World)
             → Keeps schemas world self.old
             → Answers schemas world (on_mark number name world) answer self.new) }
         ensures stores { OnOk result (stores_in self.new ≡ stores_in self.old) }
@@ -42,7 +43,8 @@ impl Live {
         number: u64,
         steps: &mut Steps<L>,
     ) -> Mem<Answer>
-        ensures step { IfOk result (λ answer. (schemas : Schemas EditFault) (world : model.World)
+        ensures step { IfOk result (λ answer. (schemas : WorldSchemas EditFault)
+            (world : model.World)
             → Keeps schemas world self.old
             → Answers schemas world (on_undo schemas number world) answer self.new) }
         ensures stores { OnOk result (ChangesOne number (stores_in self.old) (stores_in self.new)) }
@@ -74,7 +76,8 @@ impl Live {
         number: u64,
         steps: &mut Steps<L>,
     ) -> Mem<Answer>
-        ensures step { IfOk result (λ answer. (schemas : Schemas EditFault) (world : model.World)
+        ensures step { IfOk result (λ answer. (schemas : WorldSchemas EditFault)
+            (world : model.World)
             → Keeps schemas world self.old
             → Answers schemas world (on_redo schemas number world) answer self.new) }
         ensures stores { OnOk result (ChangesOne number (stores_in self.old) (stores_in self.new)) }
@@ -107,7 +110,8 @@ impl Live {
         name: &Text,
         steps: &mut Steps<L>,
     ) -> Mem<Answer>
-        ensures step { IfOk result (λ answer. (schemas : Schemas EditFault) (world : model.World)
+        ensures step { IfOk result (λ answer. (schemas : WorldSchemas EditFault)
+            (world : model.World)
             → Keeps schemas world self.old
             → Answers schemas world (on_bail schemas number name.now world) answer self.new) }
         ensures stores { OnOk result (ChangesOne number (stores_in self.old) (stores_in self.new)) }
@@ -130,7 +134,7 @@ impl Live {
     // Puts what a client can push into the queue of its session, if more is pending than before.
     fn push_more(&mut self, alloc: Global, at: usize, owed: usize) -> Mem<()>
         requires { at < vec_len self.old.clients }
-        ensures pushed { OnOk result ((schemas : Schemas EditFault) (world : model.World)
+        ensures pushed { OnOk result ((schemas : WorldSchemas EditFault) (world : model.World)
             (client : Client)
             → Fits schemas world self.old → slice_get world.clients at ≡ Some client
             → Fits schemas (with_pushing at (push_more owed client) world) self.new) }

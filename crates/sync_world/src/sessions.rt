@@ -1,7 +1,7 @@
 //! What happens between clients and the room: sessions enter and are lost, and messages go both
 //! ways.
 ghost use Rattle.std.specs.Prelude.{◌≡◌, ◌≢◌, ◌<◌, ◌∷◌, [], ℕ, Bool, Some, Err, IfOk, OnOk, slice_get, vec_len};
-ghost use Rattle.room_model.specs.Schemas.{Schemas};
+ghost use Rattle.room_model.specs.Schemas.{WorldSchemas};
 ghost use Rattle.room_model.specs.Replicas.{Client, after_notice};
 ghost use Rattle.room_model.specs.Rooms.{Room, Notice};
 ghost use Rattle.room_model.specs.Worlds as model;
@@ -29,7 +29,8 @@ use sync_room::EnterFault;
 impl Live {
     // A client asks to be connected, by a session that enters. Its request goes to the room.
     pub(crate) fn connect(&mut self, alloc: Global, number: u64, readonly: bool) -> Mem<Answer>
-        ensures step { IfOk result (λ answer. (schemas : Schemas EditFault) (world : model.World)
+        ensures step { IfOk result (λ answer. (schemas : WorldSchemas EditFault)
+            (world : model.World)
             → Keeps schemas world self.old
             → Answers schemas world (on_connect schemas number readonly world) answer self.new) }
         ensures stores { OnOk result (stores_in self.new ≡ stores_in self.old) }
@@ -85,7 +86,8 @@ impl Live {
         session: u64,
         steps: &mut Steps<L>,
     ) -> Mem<Answer>
-        ensures step { IfOk result (λ answer. (schemas : Schemas EditFault) (world : model.World)
+        ensures step { IfOk result (λ answer. (schemas : WorldSchemas EditFault)
+            (world : model.World)
             → Keeps schemas world self.old
             → Answers schemas world (on_handle schemas trace session world) answer self.new) }
         ensures stores { OnOk result (stores_in self.new ≡ stores_in self.old) }
@@ -96,8 +98,7 @@ impl Live {
         let Some(message) = self.queues.take_sent(session) else {
             return Ok(Err(StepFault::NothingThere));
         };
-        self.room
-            .handle::<EditFault, L>(alloc, id, &message, steps)?;
+        self.room.handle(alloc, id, &message, steps)?;
         let line = OutLine::From { session, message };
         Ok(Ok(traced(alloc, trace, line)?))
     }
@@ -110,7 +111,8 @@ impl Live {
         session: u64,
         steps: &mut Steps<L>,
     ) -> Mem<Answer>
-        ensures step { IfOk result (λ answer. (schemas : Schemas EditFault) (world : model.World)
+        ensures step { IfOk result (λ answer. (schemas : WorldSchemas EditFault)
+            (world : model.World)
             → Keeps schemas world self.old
             → Answers schemas world (on_send schemas trace session world) answer self.new) }
         ensures stores { OnOk result (stores_in self.new ≡ stores_in self.old) }
@@ -118,7 +120,7 @@ impl Live {
         let Some(id) = self.room.find(session) else {
             return Ok(Err(StepFault::NoSuchSession));
         };
-        let Some(out) = self.room.drain::<EditFault, L>(alloc, id, steps)? else {
+        let Some(out) = self.room.drain(alloc, id, steps)? else {
             return Ok(Err(StepFault::NothingThere));
         };
         let line = out_line(session, out.copy(alloc)?);
@@ -133,7 +135,8 @@ impl Live {
         number: u64,
         steps: &mut Steps<L>,
     ) -> Mem<Answer>
-        ensures step { IfOk result (λ answer. (schemas : Schemas EditFault) (world : model.World)
+        ensures step { IfOk result (λ answer. (schemas : WorldSchemas EditFault)
+            (world : model.World)
             → Keeps schemas world self.old
             → Answers schemas world (on_deliver number world) answer self.new) }
         ensures stores { OnOk result (ChangesOne number (stores_in self.old) (stores_in self.new)) }
@@ -173,7 +176,7 @@ impl Live {
         steps: &mut Steps<L>,
     ) -> Mem<()>
         requires { at < vec_len self.old.clients }
-        ensures taken { OnOk result ((schemas : Schemas EditFault) (world : model.World)
+        ensures taken { OnOk result ((schemas : WorldSchemas EditFault) (world : model.World)
             (client : Client) (k : ℕ) (notice : Notice)
             → Fits schemas world self.old → slice_get world.clients at ≡ Some client
             → IsDelivery schemas world client k (out.Message message.now) notice
@@ -194,7 +197,8 @@ impl Live {
 
     // The room learns that a session is lost, and what was in flight from it is gone.
     pub(crate) fn lose(&mut self, alloc: Global, session: u64) -> Answer
-        ensures step { (schemas : Schemas EditFault) (world : model.World) → Keeps schemas world self.old
+        ensures step { (schemas : WorldSchemas EditFault) (world : model.World)
+            → Keeps schemas world self.old
             → Answers schemas world (on_lose session world) result self.new }
         ensures stores { stores_in self.new ≡ stores_in self.old }
     {

@@ -1,6 +1,6 @@
 //! What clients and the room show.
 ghost use Rattle.std.specs.Prelude.{◌∷◌, [], IfOk};
-ghost use Rattle.room_model.specs.Schemas.{Schemas};
+ghost use Rattle.room_model.specs.Schemas.{WorldSchemas};
 ghost use Rattle.room_model.specs.Worlds as model;
 ghost use Rattle.room_model.specs.Worlds.{on_show, happens, end_line};
 ghost use Rattle.side_effects.specs.declared.fault.EditFault.{EditFault};
@@ -17,7 +17,7 @@ use std::alloc::Global;
 impl Live {
     // A client shows what it has. It costs a copy of the document.
     pub(crate) fn show(&self, alloc: Global, number: u64) -> Mem<Answer>
-        ensures { IfOk result (λ answer. (schemas : Schemas EditFault) (world : model.World)
+        ensures { IfOk result (λ answer. (schemas : WorldSchemas EditFault) (world : model.World)
             → Keeps schemas world self.now
             → Answers schemas world (on_show schemas number world) answer self.now) }
     {
@@ -38,7 +38,7 @@ impl Live {
     // The recording ends: the room shows its clock, its document and its presence. It costs a copy
     // of all records.
     pub(crate) fn end(&self, alloc: Global) -> Mem<Answer>
-        ensures { IfOk result (λ answer. (schemas : Schemas EditFault) (world : model.World)
+        ensures { IfOk result (λ answer. (schemas : WorldSchemas EditFault) (world : model.World)
             → Keeps schemas world self.now
             → Answers schemas world (happens (end_line schemas world ∷ []) world) answer self.now) }
     {

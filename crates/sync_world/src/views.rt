@@ -5,7 +5,7 @@ ghost use Rattle.signal_core.specs.Watches.{IsFull, IsLeastFree};
 ghost use Rattle.signal_core.specs.declared.watch.WatchFault.TheVariants as watch_fault;
 ghost use Rattle.live_views.specs.Telling.{by_number};
 ghost use Rattle.live_views.specs.Watches.{Watches, IsWatching, news, all_told};
-ghost use Rattle.room_model.specs.Schemas.{Schemas};
+ghost use Rattle.room_model.specs.Schemas.{WorldSchemas};
 ghost use Rattle.room_model.specs.Replicas.{Client};
 ghost use Rattle.room_model.specs.Worlds as model;
 ghost use Rattle.room_model.specs.Worlds.{shown_in};
@@ -39,7 +39,7 @@ impl World {
         query: &Query,
     ) -> Mem<Vec<Text>>
         requires { client < vec_len self.now.live.clients }
-        ensures { IfOk result (λ ids. (schemas : Schemas EditFault) (world : model.World)
+        ensures { IfOk result (λ ids. (schemas : WorldSchemas EditFault) (world : model.World)
             (one : Client) → Stands schemas world self.now
             → slice_get world.clients client ≡ Some one
             → ids.items ≡ ids_meeting (shown_in schemas world one) type_name.now query.now) }
@@ -65,7 +65,7 @@ impl World {
             → (result ≡ Err watch_fault.Full) ↔ IsFull (watches store) }
         ensures err { OnErr result ((ws : Watches) → HasWatches client self.old ws
             → HasWatches client self.new ws) }
-        ensures stands { (schemas : Schemas EditFault) (world : model.World)
+        ensures stands { (schemas : WorldSchemas EditFault) (world : model.World)
             → Stands schemas world self.old → Stands schemas world self.new }
         ensures stores { ViewsOne client (stores_of self.old) (stores_of self.new) }
     {
@@ -83,17 +83,17 @@ impl World {
         steps: &mut Steps<L>,
     ) -> Mem<Vec<(WatchId, Val)>>
         requires { client < vec_len self.old.live.clients }
-        ensures told { IfOk result (λ told. (schemas : Schemas EditFault) (world : model.World)
+        ensures told { IfOk result (λ told. (schemas : WorldSchemas EditFault) (world : model.World)
             (one : Client) (ws : Watches) → Stands schemas world self.old
             → slice_get world.clients client ≡ Some one → IsClosed client self.old
             → HasWatches client self.old ws
             → by_number told.items ≡ news (shown_in schemas world one) ws) }
-        ensures ok { OnOk result ((schemas : Schemas EditFault) (world : model.World)
+        ensures ok { OnOk result ((schemas : WorldSchemas EditFault) (world : model.World)
             (one : Client) (ws : Watches) → Stands schemas world self.old
             → slice_get world.clients client ≡ Some one → IsClosed client self.old
             → HasWatches client self.old ws
             → HasWatches client self.new (all_told (shown_in schemas world one) ws)) }
-        ensures stands { (schemas : Schemas EditFault) (world : model.World)
+        ensures stands { (schemas : WorldSchemas EditFault) (world : model.World)
             → Stands schemas world self.old → Stands schemas world self.new }
         ensures stores { ViewsOne client (stores_of self.old) (stores_of self.new) }
     {

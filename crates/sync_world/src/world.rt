@@ -1,7 +1,7 @@
 //! A world, which plays a recording event by event.
 ghost use Rattle.std.specs.Prelude.{◌≡◌, ◌≢◌, ◌<◌, ℕ, List, Bool, [], true, Some, IfOk, OnOk, Err, slice_get, vec_len};
 ghost use Rattle.rooms_val.specs.Data.{Pairs};
-ghost use Rattle.room_model.specs.Schemas.{Schemas};
+ghost use Rattle.room_model.specs.Schemas.{WorldSchemas};
 ghost use Rattle.room_model.specs.Replicas.{Client};
 ghost use Rattle.room_model.specs.Worlds as model;
 ghost use Rattle.room_model.specs.Worlds.{new_world, after_event};
@@ -45,7 +45,7 @@ impl World {
     /// is no client. It costs the schema.
     pub fn new(alloc: Global, version: u32) -> Mem<World>
         requires { IsVersion version }
-        ensures stands { IfOk result (λ world. (schemas : Schemas EditFault)
+        ensures stands { IfOk result (λ world. (schemas : WorldSchemas EditFault)
             × (IsAtVersion version schemas) × Stands schemas new_world world) }
         ensures stores { IfOk result (λ world. stores_of world ≡ []) }
     {
@@ -91,10 +91,10 @@ impl World {
         steps: &mut Steps<L>,
     ) -> Result<Vec<OutLine>, StepFault<EditFault>>
         requires { IsPlayed event }
-        ensures step { (schemas : Schemas EditFault) (world : model.World)
+        ensures step { (schemas : WorldSchemas EditFault) (world : model.World)
             → Stands schemas world self.old
             → StepsTo schemas world (after_event schemas trace world event) result self.new }
-        ensures goes_back { OnOk result ((schemas : Schemas EditFault) (world : model.World)
+        ensures goes_back { OnOk result ((schemas : WorldSchemas EditFault) (world : model.World)
             (number : ℕ) (name : List ℕ) (before : Pairs)
             → Stands schemas world self.old → IsSinceMark schemas number name before world
             → GoesBack schemas world number name before event
@@ -128,7 +128,7 @@ impl World {
     /// base that this has of the room.
     pub fn peer(&self, client: u64) -> &Peer
         requires { client < vec_len self.now.live.clients }
-        ensures { (schemas : Schemas EditFault) (world : model.World) (one : Client)
+        ensures { (schemas : WorldSchemas EditFault) (world : model.World) (one : Client)
             → Stands schemas world self.now → slice_get world.clients client ≡ Some one
             → peer_of.Stands schemas (held_of schemas world.room.history one) result.now }
     {
