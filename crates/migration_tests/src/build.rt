@@ -4,10 +4,9 @@ ghost use Rattle.std.specs.List.{list_all};
 ghost use Rattle.migrate_seq.specs.Steps.{can_scale};
 ghost use Rattle.migrate_seq.specs.Plans.{can_all_scale};
 
-use migrate_seq::{Filter, MigScope, MigStep, Migration, SeqFault, Sequence, Sequences};
+use migrate_seq::{Filter, MigScope, MigStep, Migration, Sequence, Sequences};
 use rooms_val::{Text, Val};
 use std::alloc::Global;
-use std::process::Abort;
 use std::test::Fail;
 
 fn can_scale(step: &MigStep) -> bool
@@ -39,20 +38,19 @@ fn can_scale_in(sequence: &Sequence) -> bool
         .all(|migration| can_scale_by(migration))
 }
 
-fn can_all_scale(list: &[Sequence]) -> bool
+/// Whether each factor of some sequences is 2 or more.
+pub(crate) fn can_all_scale(list: &[Sequence]) -> bool
     ensures { result ≡ can_all_scale list.now }
 {
     list.iter().all(|sequence| can_scale_in(sequence))
 }
 
-/// The sequences of a list.
-pub(crate) fn built(
-    rt: &impl Abort,
-    alloc: Global,
-    list: Vec<Sequence>,
-) -> Result<Sequences, SeqFault> {
-    assert!(rt; can_all_scale(&list));
-    Sequences::build(alloc, list)
+/// The sequences of a list that fit together.
+pub(crate) fn built(alloc: Global, list: Vec<Sequence>) -> Result<Sequences, Fail> {
+    if !can_all_scale(&list) {
+        return Err(Fail::from("factors of 2 and more were wanted"));
+    }
+    Ok(Sequences::build(alloc, list)?)
 }
 
 /// Copies of some texts.
@@ -125,18 +123,18 @@ pub(crate) fn step(alloc: Global, name: &str) -> Result<MigStep, Fail> {
 
 /// A migration of one record at a time. That of the id `a/1` can't be run down.
 pub(crate) fn migration(
-    alloc: Global,
-    id: &str,
+    id: Text,
     filter: Filter,
     steps: Vec<MigStep>,
     depends: Vec<Text>,
-) -> Result<Migration, Fail> {
-    Ok(Migration {
-        id: Text::of(alloc, id)?,
+) -> Migration {
+    let has_down = id.as_str() != "a/1";
+    Migration {
+        id,
         scope: MigScope::Record,
         filter,
         steps,
-        has_down: id != "a/1",
+        has_down,
         depends,
-    })
+    }
 }

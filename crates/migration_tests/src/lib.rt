@@ -9,3 +9,5 @@ mod plans;
 mod sequences;
 #[cfg(test)]
 mod steps;
+#[cfg(test)]
+mod tables;

@@ -1,10 +1,9 @@
 //! Which sequences of migrations fit together.
-use crate::build::{built, migration, texts};
-use case_tables::{cells, printed, rows};
-use migrate_seq::{Filter, MigStep, Migration, SeqFault, Sequence};
+use crate::build::{can_all_scale, migration, texts};
+use case_tables::printed;
+use migrate_seq::{Filter, MigStep, Migration, SeqFault, Sequence, Sequences};
 use rooms_val::Text;
 use std::alloc::Global;
-use std::process::Abort;
 use std::test::Fail;
 
 /// What the record of an order has before any migration, and the ids of all those that are run here.
@@ -20,13 +19,24 @@ fn marking(alloc: Global, words: &str) -> Result<Migration, Fail> {
 }
 
 fn marking_after(alloc: Global, id: &str, depends: Vec<Text>) -> Result<Migration, Fail> {
+    let steps = marking_steps(alloc, id)?;
+    Ok(migration(Text::of(alloc, id)?, Filter::All, steps, depends))
+}
+
+fn marking_steps(alloc: Global, id: &str) -> Result<Vec<MigStep>, Fail> {
     let mut steps = Vec::new(alloc);
-    steps.push(MigStep::Nest {
+    steps.push(marking_step(alloc, id)?)?;
+    Ok(steps)
+}
+
+fn marking_step(alloc: Global, id: &str) -> Result<MigStep, Fail> {
+    let keys = texts(alloc, &MARKS)?;
+    let into = Text::of(alloc, id)?;
+    Ok(MigStep::Nest {
         path: Vec::new(alloc),
-        keys: texts(alloc, &MARKS)?,
-        into: Text::of(alloc, id)?,
-    })?;
-    migration(alloc, id, Filter::All, steps, depends)
+        keys,
+        into,
+    })
 }
 
 /// The sequence of its id and its migrations. It is retroactive, if its id isn't `d`.
@@ -55,6 +65,16 @@ pub(crate) fn listed(alloc: Global, words: &str) -> Result<Vec<Sequence>, Fail> 
     Ok(sequences)
 }
 
+/// The ids that can't be put in order.
+fn cycle_text(alloc: Global, ids: &[Text]) -> Result<String, Fail> {
+    let mut text = String::from_str(alloc, "Cycle")?;
+    for id in ids {
+        text.push(' ')?;
+        text.push_str(id.as_str())?;
+    }
+    Ok(text)
+}
+
 /// The name of a fault, and the ids at fault.
 fn told(alloc: Global, fault: &SeqFault) -> Result<String, Fail> {
     match fault {
@@ -62,62 +82,25 @@ fn told(alloc: Global, fault: &SeqFault) -> Result<String, Fail> {
         SeqFault::BadId(id) => Ok(format!(in alloc; "BadId {}", id.as_str())?),
         SeqFault::Doubled(id) => Ok(format!(in alloc; "Doubled {}", id.as_str())?),
         SeqFault::UnknownDependency(id) => Ok(format!(in alloc; "Unknown {}", id.as_str())?),
-        SeqFault::Cycle(ids) => {
-            let mut text = String::from_str(alloc, "Cycle")?;
-            for id in ids.as_slice() {
-                text.push(' ')?;
-                text.push_str(id.as_str())?;
-            }
-            Ok(text)
-        }
+        SeqFault::Cycle(ids) => cycle_text(alloc, ids.as_slice()),
         SeqFault::OutOfMemory => Err(Fail::from("memory was refused")),
     }
 }
 
-/// Sequences, and their newest versions or the fault. A `<` stands before what a migration depends on.
-const SEQUENCES: &str = r#"
-a a/1 a/2; b b/1 | {"schemaVersion":2,"sequences":{"a":2,"b":1}}
-# Versions that aren't their places.
-a a/1 a/3 | Gap a/3
-a a/1 a/1 | Gap a/1
-a a/18446744073709551617 | Gap a/18446744073709551617
-# Ids that aren't of their form.
-a a/0 | BadId a/0
-a a/01 | BadId a/01
-a a/ | BadId a/
-a a | BadId a
-a b/1 | BadId b/1
-a a/1x | BadId a/1x
-a/b a/b/3 | BadId a/b
-# A gap comes first, wherever it stands.
-a x; b b/2 | Gap b/2
-a; a | Doubled a
-a a/1<b/2; b b/1 | Unknown b/2
-# Those that can't be put in order, and what follows them.
-a a/1<a/1 | Cycle a/1
-a a/1<a/2 a/2; b b/1 | Cycle a/1 a/2
-b b/1<a/1; a a/1<b/1 a/2 | Cycle a/1 a/2 b/1
-"#;
-
-#[test]
-fn builds_sequences_that_fit_together(rt: HostRuntime) -> Result<(), Fail> {
-    let alloc = rt.alloc();
-    for row in &rows(alloc, SEQUENCES)? {
-        let [words, wanted, ..] = cells(row);
-        builds(&rt, alloc, words, wanted)?;
+/// The newest versions of some sequences, or the fault.
+pub(crate) fn fitted(alloc: Global, words: &str) -> Result<String, Fail> {
+    let list = listed(alloc, words)?;
+    if !can_all_scale(&list) {
+        return Err(Fail::from("factors of 2 and more were wanted"));
     }
-    Ok(())
+    match Sequences::build(alloc, list) {
+        Ok(sequences) => newest(alloc, &sequences),
+        Err(fault) => told(alloc, &fault),
+    }
 }
 
-/// Asserts the newest versions of some sequences, or the fault.
-fn builds(rt: &impl Abort, alloc: Global, words: &str, wanted: &str) -> Result<(), Fail> {
-    let answer = match built(rt, alloc, listed(alloc, words)?) {
-        Ok(sequences) => {
-            let versions = sequences.serialized(alloc)?.copy(alloc)?;
-            printed(alloc, &versions.val(alloc)?)?
-        }
-        Err(fault) => told(alloc, &fault)?,
-    };
-    assert_eq!(rt; answer.as_str(), wanted, "at {words}");
-    Ok(())
+/// The newest versions of some sequences.
+fn newest(alloc: Global, sequences: &Sequences) -> Result<String, Fail> {
+    let versions = sequences.serialized(alloc)?.copy(alloc)?;
+    printed(alloc, &versions.val(alloc)?)
 }
