@@ -1,6 +1,7 @@
 //! Which values fit a check, and the first fault of the others with its depth.
 use crate::operations::operation;
-use case_tables::{cells, rows, value};
+use crate::played::{Call, plays};
+use case_tables::value;
 use field_ops::apply_record;
 use record_valid::fits::check;
 use record_valid::{Check, Checks, Reject};
@@ -84,24 +85,24 @@ const PATCHES: &str = r#"
 
 #[test]
 fn names_the_first_fault_of_a_value(rt: HostRuntime) -> Result<(), Fail> {
-    let alloc = rt.alloc();
-    let checks = every_kind(alloc)?;
-    let good = value(alloc, GOOD)?;
-    for row in &rows(alloc, PATCHES)? {
-        let [patch, wanted, ..] = cells(row);
-        let answer = fault_after(alloc, &checks, &good, patch)?;
-        assert_eq!(rt; answer.as_str(), wanted, "at {patch}");
-    }
-    Ok(())
+    plays(&rt, rt.alloc(), Call::Fit, PATCHES)
 }
 
-/// The fault of a value after an operation, in words.
-fn fault_after(alloc: Global, checks: &Check, val: &Val, op: &str) -> Result<String, Fail> {
-    let Some(after) = apply_record(alloc, Some(val), &operation(alloc, op)?)? else {
+/// The good value after an operation.
+fn good_after(alloc: Global, op: &str) -> Result<Option<Val>, Fail> {
+    let op = operation(alloc, op)?;
+    let good = value(alloc, GOOD)?;
+    Ok(apply_record(alloc, Some(&good), &op)?)
+}
+
+/// The fault of the good value after an operation, in words.
+pub(crate) fn fault_after(alloc: Global, op: &str) -> Result<String, Fail> {
+    let Some(after) = good_after(alloc, op)? else {
         return Err(Fail::from("a value was wanted"));
     };
-    Ok(match check(checks, &after) {
-        Ok(()) => String::from_str(alloc, "fits")?,
-        Err(Reject { depth, kind }) => format!(in alloc; "{kind:?} {depth}")?,
-    })
+    let checks = every_kind(alloc)?;
+    match check(&checks, &after) {
+        Ok(()) => Ok(String::from_str(alloc, "fits")?),
+        Err(Reject { depth, kind }) => Ok(format!(in alloc; "{kind:?} {depth}")?),
+    }
 }

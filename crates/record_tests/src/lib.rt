@@ -7,6 +7,8 @@ mod checks;
 #[cfg(test)]
 mod operations;
 #[cfg(test)]
+mod played;
+#[cfg(test)]
 mod records;
 #[cfg(test)]
 mod schemas;

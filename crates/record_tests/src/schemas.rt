@@ -1,5 +1,6 @@
 //! Which records the schemas of a whiteboard admit, at each version, and why they refuse others.
 use crate::operations::operation;
+use crate::played::{Call, plays};
 use crate::records::{RECORDS, record_at};
 use case_tables::{cells, rows, value};
 use field_ops::{RecordOp, apply_record};
@@ -8,51 +9,17 @@ use record_valid::{Check, Reject};
 use rooms_val::{Text, Val};
 use schema_core::{RecordFault, Schema, SchemaFault, Scope, TypeRow};
 use std::alloc::Global;
-use std::process::Abort;
 use std::test::Fail;
 use tl_tables::schema_at;
 
-#[test]
-fn admits_records_of_each_type(rt: HostRuntime) -> Result<(), Fail> {
-    for version in ["1", "2", "3"] {
-        admits_at(&rt, rt.alloc(), version)?;
-    }
-    Ok(())
-}
+// A version, and `=` where it admits those of the table of records that it is to admit, and no others.
+const VERSIONS: &str = r#"
+1 | =
+2 | =
+3 | =
+"#;
 
-/// The schema of a version that is written in digits.
-pub(crate) fn schema_of(alloc: Global, version: &str) -> Result<Schema, Fail> {
-    Ok(schema_at(alloc, version.parse::<u32>()?)?)
-}
-
-/// What a schema answers, in words.
-fn told(alloc: Global, answer: Result<Scope, RecordFault>) -> Result<String, Fail> {
-    Ok(match answer {
-        Ok(scope) => format!(in alloc; "{scope:?}")?,
-        Err(RecordFault::Rejected(Reject { depth, kind })) => {
-            format!(in alloc; "{kind:?} {depth}")?
-        }
-        Err(fault) => format!(in alloc; "{fault:?}")?,
-    })
-}
-
-/// Asserts which of the records a schema admits, and the scopes of their ids.
-fn admits_at(rt: &impl Abort, alloc: Global, version: &str) -> Result<(), Fail> {
-    let schema = schema_of(alloc, version)?;
-    for row in &rows(alloc, RECORDS)? {
-        let [versions, id, scope, text] = cells(row);
-        let answer = schema.admits(id, &value(alloc, text)?);
-        if versions.contains(version) {
-            assert_eq!(rt; told(alloc, answer)?.as_str(), scope, "{id} at {version}");
-            assert_eq!(rt; schema.scope_of(id), answer.ok(), "{id}");
-        } else {
-            assert!(rt; answer.is_err(), "{id} at {version}");
-        }
-    }
-    Ok(())
-}
-
-/// A version, the id of a record, a patch of it, and what the schema answers then.
+// A version, the id of a record, a patch of it, and what the schema answers then.
 const PATCHES: &str = r#"
 3 | page:p | {"name":["put","two"]} | Document
 3 | page:p | {"none":["delete"]} | Document
@@ -147,96 +114,192 @@ const PATCHES: &str = r#"
 3 | page:p | {"typeName":["put",null]} | BadId
 "#;
 
+// An id, and what the schema answers of a record under it. None of them has a scope.
+const IDS: &str = r#"
+ | BadId
+page | BadId
+page: | BadId
+a:b:c | BadId
+star:s | UnknownType
+"#;
+
+// The length of a text and an index, and what the schema answers of a page that has both and weighs 44 more than the text.
+// The check comes before the weight.
+const WEIGHTS: &str = r#"
+32724 | a0 | Document
+32725 | a0 | TooHeavy
+32725 | ?0 | BadKey 1
+"#;
+
+// The names of types, and the one that stands twice.
+const TYPES: &str = r#"
+b a c a b | a
+"#;
+
+#[test]
+fn schemas_admit_records_or_tell_the_fault(rt: HostRuntime) -> Result<(), Fail> {
+    plays(&rt, rt.alloc(), Call::Admit, VERSIONS)?;
+    plays(&rt, rt.alloc(), Call::Patch, PATCHES)?;
+    plays(&rt, rt.alloc(), Call::Id, IDS)?;
+    plays(&rt, rt.alloc(), Call::Weight, WEIGHTS)?;
+    plays(&rt, rt.alloc(), Call::Types, TYPES)
+}
+
+/// The schema of a version that is written in digits.
+pub(crate) fn schema_of(alloc: Global, version: &str) -> Result<Schema, Fail> {
+    Ok(schema_at(alloc, version.parse::<u32>()?)?)
+}
+
+/// What a schema answers, in words.
+fn told(alloc: Global, answer: Result<Scope, RecordFault>) -> Result<String, Fail> {
+    match answer {
+        Ok(scope) => Ok(format!(in alloc; "{scope:?}")?),
+        Err(RecordFault::Rejected(Reject { depth, kind })) => {
+            Ok(format!(in alloc; "{kind:?} {depth}")?)
+        }
+        Err(fault) => Ok(format!(in alloc; "{fault:?}")?),
+    }
+}
+
+/// What a schema answers of a record, in words.
+fn admits_text(alloc: Global, schema: &Schema, id: &str, val: &Val) -> Result<String, Fail> {
+    told(alloc, schema.admits(id, val))
+}
+
+/// Whether a schema admits a record with the scope of its id.
+fn admits_with(
+    alloc: Global,
+    schema: &Schema,
+    id: &str,
+    val: &Val,
+    scope: &str,
+) -> Result<bool, Fail> {
+    let answer = schema.admits(id, val);
+    let is_scope = schema.scope_of(id) == answer.ok();
+    let text = admits_text(alloc, schema, id, val)?;
+    Ok(is_scope && text.as_str() == scope)
+}
+
+/// Whether a schema of a version admits the record of a row where the row says so, and refuses it elsewhere.
+fn admits_row(alloc: Global, schema: &Schema, version: &str, row: &str) -> Result<bool, Fail> {
+    let [versions, id, scope, text] = cells(row);
+    let val = value(alloc, text)?;
+    if versions.contains(version) {
+        return admits_with(alloc, schema, id, &val, scope);
+    }
+    Ok(schema.admits(id, &val).is_err())
+}
+
+/// The first row of the table of records with another answer of the schema of a version, or `=`.
+pub(crate) fn admitted(alloc: Global, version: &str) -> Result<String, Fail> {
+    let schema = schema_of(alloc, version)?;
+    for row in &rows(alloc, RECORDS)? {
+        if !admits_row(alloc, &schema, version, row)? {
+            return Ok(String::from_str(alloc, row)?);
+        }
+    }
+    Ok(String::from_str(alloc, "=")?)
+}
+
 /// The operation that patches a record.
 fn patch_op(alloc: Global, patch: &str) -> Result<RecordOp, Fail> {
     let text = format!(in alloc; "[\"patch\",{patch}]")?;
     operation(alloc, text.as_str())
 }
 
-/// A copy of a record that a patch has changed.
-pub(crate) fn patched(alloc: Global, record_: &Val, patch: &str) -> Result<Val, Fail> {
-    let op = patch_op(alloc, patch)?;
-    match apply_record(alloc, Some(record_), &op)? {
+/// A copy of a record that an operation has changed.
+fn changed(alloc: Global, val: &Val, op: &RecordOp) -> Result<Val, Fail> {
+    match apply_record(alloc, Some(val), op)? {
         Some(after) => Ok(after),
         None => Err(Fail::from("a record was wanted")),
     }
 }
 
-#[test]
-fn tells_the_first_fault_of_a_patched_record(rt: HostRuntime) -> Result<(), Fail> {
-    let alloc = rt.alloc();
-    for row in &rows(alloc, PATCHES)? {
-        let [version, id, patch, wanted] = cells(row);
-        let schema = schema_of(alloc, version)?;
-        let left = patched(alloc, &record_at(alloc, version, id)?, patch)?;
-        assert_eq!(rt;
-            told(alloc, schema.admits(id, &left))?.as_str(),
-            wanted,
-            "at {row}"
-        );
-        if let RecordOp::Patch(diff) = patch_op(alloc, patch)? {
-            let answer = told(alloc, schema.admits_patched(id, &left, &diff))?;
-            assert_eq!(rt; answer.as_str(), wanted, "by its patch at {row}");
-        }
-    }
-    Ok(())
+/// The record of an id at a version, as a patch changes it.
+pub(crate) fn patched(alloc: Global, version: &str, id: &str, patch: &str) -> Result<Val, Fail> {
+    let op = patch_op(alloc, patch)?;
+    let val = record_at(alloc, version, id)?;
+    changed(alloc, &val, &op)
 }
 
-#[test]
-fn tells_ids_that_are_of_no_type(rt: HostRuntime) -> Result<(), Fail> {
-    let alloc = rt.alloc();
+/// What a schema answers of a record that a patch has made, if it looks at what the patch names.
+fn by_patch_text(
+    alloc: Global,
+    schema: &Schema,
+    id: &str,
+    val: &Val,
+    patch: &str,
+) -> Result<String, Fail> {
+    let RecordOp::Patch(diff) = patch_op(alloc, patch)? else {
+        return Err(Fail::from("a patch was wanted"));
+    };
+    told(alloc, schema.admits_patched(id, val, &diff))
+}
+
+/// What the schema of a row answers of its patched record, whole and by the patch.
+pub(crate) fn patched_text(alloc: Global, row: &str) -> Result<String, Fail> {
+    let [version, id, patch, ..] = cells(row);
+    let val = patched(alloc, version, id, patch)?;
+    let schema = schema_of(alloc, version)?;
+    let whole = admits_text(alloc, &schema, id, &val)?;
+    let part = by_patch_text(alloc, &schema, id, &val, patch)?;
+    if whole.as_str() == part.as_str() {
+        return Ok(whole);
+    }
+    Ok(format!(in alloc; "{whole} and {part}")?)
+}
+
+/// What a schema answers of a record under an id without a scope.
+pub(crate) fn id_text(alloc: Global, id: &str) -> Result<String, Fail> {
+    let text = format!(in alloc; "{{\"id\":\"{id}\",\"typeName\":\"star\"}}")?;
+    let val = value(alloc, text.as_str())?;
     let schema = schema_at(alloc, 3)?;
-    for id in ["", "page", "page:", "a:b:c", "star:s"] {
-        let text = format!(in alloc; "{{\"id\":\"{id}\",\"typeName\":\"star\"}}")?;
-        let answer = told(alloc, schema.admits(id, &value(alloc, text.as_str())?))?;
-        let wanted = if id == "star:s" {
-            "UnknownType"
-        } else {
-            "BadId"
-        };
-        assert_eq!(rt; answer.as_str(), wanted, "at {id}");
-        assert_eq!(rt; schema.scope_of(id), None, "at {id}");
+    if schema.scope_of(id).is_some() {
+        return Ok(String::from_str(alloc, "a scope")?);
     }
-    Ok(())
+    admits_text(alloc, &schema, id, &val)
 }
 
-/// What a schema answers of a page that weighs 44 and the length of a text, with an index.
-fn weighed(alloc: Global, length: u32, index: &str) -> Result<String, Fail> {
+/// What a schema answers of a page with a text of a length, and with an index.
+pub(crate) fn weight_text(alloc: Global, row: &str) -> Result<String, Fail> {
+    let [length, index, ..] = cells(row);
+    let patch = long_patch(alloc, length.parse::<u32>()?, index)?;
+    let page = patched(alloc, "3", "page:p", patch.as_str())?;
+    let schema = schema_at(alloc, 3)?;
+    admits_text(alloc, &schema, "page:p", &page)
+}
+
+/// The patch that puts a text of a length, and an index.
+fn long_patch(alloc: Global, length: u32, index: &str) -> Result<String, Fail> {
     let mut long = String::new(alloc);
     for _ in 0..length {
         long.push('a')?;
     }
-    let patch = format!(in alloc;
+    Ok(format!(in alloc;
         "{{\"index\":[\"put\",\"{index}\"],\"meta\":[\"put\",{{\"k\":\"{long}\"}}]}}"
-    )?;
-    let page = patched(alloc, &record_at(alloc, "3", "page:p")?, patch.as_str())?;
-    told(alloc, schema_at(alloc, 3)?.admits("page:p", &page))
+    )?)
 }
 
-#[test]
-fn refuses_what_weighs_more_than_32768(rt: HostRuntime) -> Result<(), Fail> {
-    let alloc = rt.alloc();
-    assert_eq!(rt; weighed(alloc, 32_724, "a0")?.as_str(), "Document");
-    assert_eq!(rt; weighed(alloc, 32_725, "a0")?.as_str(), "TooHeavy");
-    // The check comes before the weight.
-    assert_eq!(rt; weighed(alloc, 32_725, "?0")?.as_str(), "BadKey 1");
-    Ok(())
-}
-
-#[test]
-fn names_the_first_type_that_stands_twice(rt: HostRuntime) -> Result<(), Fail> {
-    let alloc = rt.alloc();
-    let mut rows = Vec::new(alloc);
-    for name in ["b", "a", "c", "a", "b"] {
-        rows.push(TypeRow {
-            name: Text::of(alloc, name)?,
+/// Types of these names.
+fn types(alloc: Global, names: &str) -> Result<Vec<TypeRow>, Fail> {
+    let mut made = Vec::new(alloc);
+    for name in names.split(' ') {
+        let name = Text::of(alloc, name)?;
+        made.push(TypeRow {
+            name,
             scope: Scope::Document,
             check: Check::Any,
         })?;
     }
-    match Schema::build(alloc, rows, Sequences::build(alloc, Vec::new(alloc))?) {
-        Err(SchemaFault::DoubledType(name)) => assert_eq!(rt; name.as_str(), "a"),
-        _ => return Err(Fail::from("a type was to stand twice")),
+    Ok(made)
+}
+
+/// The name that a schema of some types says to stand twice.
+pub(crate) fn doubled(alloc: Global, names: &str) -> Result<String, Fail> {
+    let made = types(alloc, names)?;
+    let sequences = Sequences::build(alloc, Vec::new(alloc))?;
+    match Schema::build(alloc, made, sequences) {
+        Err(SchemaFault::DoubledType(name)) => Ok(String::from_str(alloc, name.as_str())?),
+        _ => Err(Fail::from("a type was to stand twice")),
     }
-    Ok(())
 }
