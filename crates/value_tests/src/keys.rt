@@ -1,12 +1,11 @@
 //! Which texts are index keys, the fault that is named of the others, and the keys between two.
-ghost use Rattle.std.specs.Prelude.{◌<◌};
-
-use case_tables::{cells, rows};
-use index_keys::{BetweenFault, between, check, several};
+use crate::played::{Call, plays, repeated};
+use case_tables::cells;
+use index_keys::{between, check, several};
 use std::alloc::Global;
-use std::process::Abort;
 use std::test::Fail;
 
+// A text, and whether it is a key.
 const KEYS: &str = r#"
 a0 | Ok(())
 Zz | Ok(())
@@ -37,17 +36,6 @@ A00000000000000000000000000 | Err(SmallestInteger)
 b- | Err(ShortInteger)
 a-0 | Err(BadDigit)
 "#;
-
-#[test]
-fn tells_keys_from_other_texts(rt: HostRuntime) -> Result<(), Fail> {
-    let alloc = rt.alloc();
-    for row in &rows(alloc, KEYS)? {
-        let [key, wanted, ..] = cells(row);
-        let answer = format!(in alloc; "{:?}", check(key))?;
-        assert_eq!(rt; answer.as_str(), wanted, "at {key}");
-    }
-    Ok(())
-}
 
 // Two ends, each a key or `.` for none, and what stands between them.
 const BETWEEN: &str = r#"
@@ -93,23 +81,10 @@ a1 | a00 | Err(NotKey)
 a0 | a0 | Err(NotLess)
 a1 | Zz | Err(NotLess)
 . | A00000000000000000000000001 | Err(NoRoom)
+# No key has 257 characters.
+a0 254*z | a1 | Err(KeyTooLong)
+a0 254*z | . | Ok("a1")
 "#;
-
-// The end that a cell names.
-fn end(cell: &str) -> Option<&str> {
-    if cell == "." { None } else { Some(cell) }
-}
-
-#[test]
-fn gives_the_key_between_two(rt: HostRuntime) -> Result<(), Fail> {
-    let alloc = rt.alloc();
-    for row in &rows(alloc, BETWEEN)? {
-        let [below, above, wanted, ..] = cells(row);
-        let answer = format!(in alloc; "{:?}", between(alloc, end(below), end(above)))?;
-        assert_eq!(rt; answer.as_str(), wanted, "between {below} and {above}");
-    }
-    Ok(())
-}
 
 // Two ends, how many keys are wanted, and the keys.
 const SEVERAL: &str = r#"
@@ -125,110 +100,189 @@ a0 | a0 | 2 | Err(NotLess)
 . | A00000000000000000000000003 | 3 | Err(NoRoom)
 "#;
 
-#[test]
-fn gives_several_keys_between_two(rt: HostRuntime) -> Result<(), Fail> {
-    let alloc = rt.alloc();
-    for row in &rows(alloc, SEVERAL)? {
-        let [below, above, count, wanted] = cells(row);
-        let count = count.parse::<u32>()?;
-        let answer = format!(in alloc; "{:?}", several(alloc, end(below), end(above), count))?;
-        assert_eq!(rt;
-            answer.as_str(),
-            wanted,
-            "{count} between {below} and {above}"
-        );
-    }
-    Ok(())
-}
+// The last key of a head and the first one of the next head, each of which stands beside the other.
+const HEADS: &str = r#"
+A 26*z | B 25*0 | =
+B 25*z | C 24*0 | =
+C 24*z | D 23*0 | =
+D 23*z | E 22*0 | =
+E 22*z | F 21*0 | =
+F 21*z | G 20*0 | =
+G 20*z | H 19*0 | =
+H 19*z | I 18*0 | =
+I 18*z | J 17*0 | =
+J 17*z | K 16*0 | =
+K 16*z | L 15*0 | =
+L 15*z | M 14*0 | =
+M 14*z | N 13*0 | =
+N 13*z | O 12*0 | =
+O 12*z | P 11*0 | =
+P 11*z | Q 10*0 | =
+Q 10*z | R 9*0 | =
+R 9*z | S 8*0 | =
+S 8*z | T 7*0 | =
+T 7*z | U 6*0 | =
+U 6*z | V 5*0 | =
+V 5*z | W 4*0 | =
+W 4*z | X 3*0 | =
+X 3*z | Y 2*0 | =
+Y 2*z | Z 1*0 | =
+Z 1*z | a 1*0 | =
+a 1*z | b 2*0 | =
+b 2*z | c 3*0 | =
+c 3*z | d 4*0 | =
+d 4*z | e 5*0 | =
+e 5*z | f 6*0 | =
+f 6*z | g 7*0 | =
+g 7*z | h 8*0 | =
+h 8*z | i 9*0 | =
+i 9*z | j 10*0 | =
+j 10*z | k 11*0 | =
+k 11*z | l 12*0 | =
+l 12*z | m 13*0 | =
+m 13*z | n 14*0 | =
+n 14*z | o 15*0 | =
+o 15*z | p 16*0 | =
+p 16*z | q 17*0 | =
+q 17*z | r 18*0 | =
+r 18*z | s 19*0 | =
+s 19*z | t 20*0 | =
+t 20*z | u 21*0 | =
+u 21*z | v 22*0 | =
+v 22*z | w 23*0 | =
+w 23*z | x 24*0 | =
+x 24*z | y 25*0 | =
+y 25*z | z 26*0 | =
+"#;
+
+// Two ends, and where 300 keys are put, one after the other: each above or below the one before it, or all at once.
+const PLACES: &str = r#"
+. | . | up | 300 rise
+. | . | down | 300 fall
+a0 | a1 | up | 300 rise
+a0 | a1 | down | 300 fall
+a0 | a0V | together | 300 rise
+"#;
 
 #[test]
-fn gives_no_key_of_257_characters(rt: HostRuntime) -> Result<(), Fail> {
-    let alloc = rt.alloc();
-    let mut long = String::from_str(alloc, "a0")?;
-    for _ in 0..254 {
-        long.push('z')?;
-    }
-    let refused = between(alloc, Some(long.as_str()), Some("a1"));
-    assert_eq!(rt; refused.err(), Some(BetweenFault::KeyTooLong));
-    let above = between(alloc, Some(long.as_str()), None)?;
-    assert_eq!(rt; above.as_str(), "a1");
-    Ok(())
+fn keys_are_told_and_found_between_two(rt: HostRuntime) -> Result<(), Fail> {
+    plays(&rt, rt.alloc(), Call::Check, KEYS)?;
+    plays(&rt, rt.alloc(), Call::Between, BETWEEN)?;
+    plays(&rt, rt.alloc(), Call::Several, SEVERAL)?;
+    plays(&rt, rt.alloc(), Call::Heads, HEADS)?;
+    plays(&rt, rt.alloc(), Call::Places, PLACES)
 }
 
-// Puts 300 keys, each beside the one before it: after it where the keys go up, else before it.
-fn puts_300(
-    rt: &impl Abort,
-    alloc: Global,
-    below: Option<&str>,
-    above: Option<&str>,
-    goes_up: bool,
-) -> Result<(), Fail> {
-    let mut last: Option<String> = None;
-    for _put in 0..300 {
-        let beside = match &last {
-            Some(key) => Some(key.as_str()),
-            None => None,
+/// Whether a text is a key.
+pub(crate) fn checked(alloc: Global, text: &str) -> Result<String, Fail> {
+    Ok(format!(in alloc; "{:?}", check(text))?)
+}
+
+// The end that a cell names.
+fn end(cell: &str) -> Option<&str> {
+    if cell == "." { None } else { Some(cell) }
+}
+
+/// The key between the ends that a row names.
+pub(crate) fn one_between(alloc: Global, row: &str) -> Result<String, Fail> {
+    let [below, above, ..] = cells(row);
+    let below = repeated(alloc, below)?;
+    let found = between(alloc, end(below.as_str()), end(above));
+    Ok(format!(in alloc; "{found:?}")?)
+}
+
+/// The keys between the ends that a row names.
+pub(crate) fn several_between(alloc: Global, row: &str) -> Result<String, Fail> {
+    let [below, above, count, ..] = cells(row);
+    let found = several(alloc, end(below), end(above), count.parse::<u32>()?);
+    Ok(format!(in alloc; "{found:?}")?)
+}
+
+/// What stands above the last key of a head and below the first of the next: `=`, if that is the other of the two.
+pub(crate) fn beside_heads(alloc: Global, row: &str) -> Result<String, Fail> {
+    let [last, first, ..] = cells(row);
+    let last = repeated(alloc, last)?;
+    let first = repeated(alloc, first)?;
+    let up = between(alloc, Some(last.as_str()), None)?;
+    let down = between(alloc, None, Some(first.as_str()))?;
+    if up.as_str() == first.as_str() && down.as_str() == last.as_str() {
+        return Ok(String::from_str(alloc, "=")?);
+    }
+    Ok(format!(in alloc; "{up} and {down}")?)
+}
+
+/// How the keys lie that are put where a row says.
+pub(crate) fn placed(alloc: Global, row: &str) -> Result<String, Fail> {
+    let [below, above, place, ..] = cells(row);
+    let told = match place {
+        "up" if rises(alloc, end(below), end(above))? => "300 rise",
+        "down" if falls(alloc, end(below), end(above))? => "300 fall",
+        "together" if rises_at_once(alloc, below, above)? => "300 rise",
+        _ => "another order",
+    };
+    Ok(String::from_str(alloc, told)?)
+}
+
+// Whether a text is a key, and lies above one end and below another.
+fn is_between(key: &str, below: Option<&str>, above: Option<&str>) -> bool {
+    if let Some(below) = below
+        && key <= below
+    {
+        return false;
+    }
+    if let Some(above) = above
+        && above <= key
+    {
+        return false;
+    }
+    check(key).is_ok()
+}
+
+// Whether 300 keys are put, each above the one before it.
+fn rises(alloc: Global, below: Option<&str>, above: Option<&str>) -> Result<bool, Fail> {
+    let mut last = String::new(alloc);
+    for place in 0..300 {
+        let low = if place == 0 {
+            below
+        } else {
+            Some(last.as_str())
         };
-        let low = if goes_up { beside.or(below) } else { below };
-        let high = if goes_up { above } else { beside.or(above) };
-        let key = between(alloc, low, high)?;
-        assert_eq!(rt; check(key.as_str()), Ok(()));
-        if let Some(low) = low {
-            assert!(rt; low < key.as_str());
+        let key = between(alloc, low, above)?;
+        if !is_between(key.as_str(), low, above) {
+            return Ok(false);
         }
-        if let Some(high) = high {
-            assert!(rt; key.as_str() < high);
-        }
-        last = Some(key);
+        last = key;
     }
-    Ok(())
+    Ok(true)
 }
 
-#[test]
-fn puts_300_keys_in_one_place(rt: HostRuntime) -> Result<(), Fail> {
-    let alloc = rt.alloc();
-    puts_300(&rt, alloc, None, None, true)?;
-    puts_300(&rt, alloc, None, None, false)?;
-    puts_300(&rt, alloc, Some("a0"), Some("a1"), true)?;
-    puts_300(&rt, alloc, Some("a0"), Some("a1"), false)?;
-    let keys = several(alloc, Some("a0"), Some("a0V"), 300)?;
-    assert_eq!(rt; keys.len(), 300);
-    let mut last = "a0";
+// Whether 300 keys are put, each below the one before it.
+fn falls(alloc: Global, below: Option<&str>, above: Option<&str>) -> Result<bool, Fail> {
+    let mut last = String::new(alloc);
+    for place in 0..300 {
+        let high = if place == 0 {
+            above
+        } else {
+            Some(last.as_str())
+        };
+        let key = between(alloc, below, high)?;
+        if !is_between(key.as_str(), below, high) {
+            return Ok(false);
+        }
+        last = key;
+    }
+    Ok(true)
+}
+
+// Whether 300 keys are found at once, each above the one before it.
+fn rises_at_once(alloc: Global, below: &str, above: &str) -> Result<bool, Fail> {
+    let keys = several(alloc, Some(below), Some(above), 300)?;
+    let mut last = below;
     for key in keys.iter() {
-        assert_eq!(rt; check(key.as_str()), Ok(()));
-        assert!(rt; last < key.as_str() && key.as_str() < "a0V");
+        if !is_between(key.as_str(), Some(last), Some(above)) {
+            return Ok(false);
+        }
         last = key.as_str();
     }
-    Ok(())
-}
-
-// The integer part under the head at a place among `A` to `Z` and `a` to `z`, with one digit again and again.
-fn integer_part(alloc: Global, place: u8, digit: char) -> Result<String, Fail>
-    requires { place < 52 }
-{
-    let mut text = String::new(alloc);
-    let (head, times) = if place < 26 {
-        (b'A' + place, 26 - place)
-    } else {
-        (b'a' + (place - 26), place - 25)
-    };
-    text.push(char::from(head))?;
-    for _ in 0..times {
-        text.push(digit)?;
-    }
-    Ok(text)
-}
-
-#[test]
-fn goes_from_head_to_head(rt: HostRuntime) -> Result<(), Fail> {
-    let alloc = rt.alloc();
-    for place in 0u8..51 {
-        let last = integer_part(alloc, place, 'z')?;
-        let first = integer_part(alloc, place + 1, '0')?;
-        let up = between(alloc, Some(last.as_str()), None)?;
-        assert_eq!(rt; up.as_str(), first.as_str());
-        let down = between(alloc, None, Some(first.as_str()))?;
-        assert_eq!(rt; down.as_str(), last.as_str());
-    }
-    Ok(())
+    Ok(keys.len() == 300)
 }

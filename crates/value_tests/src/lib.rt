@@ -6,4 +6,8 @@ mod calls;
 #[cfg(test)]
 mod keys;
 #[cfg(test)]
+mod played;
+#[cfg(test)]
+mod scripts;
+#[cfg(test)]
 mod values;

@@ -1,25 +1,11 @@
 //! What bytes are read as: the value, told by the compact text that is printed of it, or the first fault.
-use case_tables::{cells, printed, rows};
+use crate::played::{Call, plays, repeated};
+use case_tables::printed;
 use rooms_val::Val;
 use std::alloc::Global;
-use std::process::Abort;
 use std::test::Fail;
 
-/// Asserts what bytes are read as: what is printed of the value, where `=` stands for the bytes, or the fault's name.
-fn reads(rt: &impl Abort, alloc: Global, bytes: &[u8], wanted: &str) -> Result<(), Fail> {
-    let shown = String::from_utf8_lossy(alloc, bytes)?;
-    let answer = match Val::read(alloc, bytes) {
-        Ok(val) => printed(alloc, &val)?,
-        Err(fault) => format!(in alloc; "{fault:?}")?,
-    };
-    if wanted == "=" {
-        assert_eq!(rt; answer.as_bytes(), bytes, "at {shown}");
-    } else {
-        assert_eq!(rt; answer.as_str(), wanted, "at {shown}");
-    }
-    Ok(())
-}
-
+// In each row a text and what is printed of its value, where `=` stands for the text, or the fault's name.
 const NUMBERS: &str = r#"
 0 | =
 -1 | =
@@ -76,7 +62,7 @@ const TEXTS: &str = r#"
 'a' | BadJson
 "#;
 
-/// Characters that this file can't show.
+// Characters that this file can't show.
 const BARE: &str = "\"\u{7f}\u{80}\u{2028}\u{ffff}\u{10000}\u{10ffff}\" | =
 \"\u{0}\" | BadJson
 \"\t\" | BadJson
@@ -118,89 +104,82 @@ null null | BadJson
 /**/null | BadJson
 "#;
 
-/// Bytes that are no UTF-8.
-const NO_TEXTS: [&[u8]; 6] = [
-    b"\"\xff\"",
-    b"\"\xc3\"",
-    b"\"\xc0\x80\"",
-    b"\"\xed\xa0\x80\"",
-    b"\"\xf4\x90\x80\x80\"",
-    b"{\"a\":\"\xff\",\"a\":1}",
+// Parts that blanks part, where `n*` stands before one that is there n times.
+const REPEATED: &str = r#"
+63*[ 1 63*] | =
+63*{"a": 1 63*} | =
+64*[ 1 64*] | =
+64*{"a": 1 64*} | =
+65*[ 1 65*] | TooDeep
+65*{"a": 1 65*} | TooDeep
+127*[ 1 127*] | TooDeep
+127*{"a": 1 127*} | TooDeep
+128*[ 1 128*] | BadJson
+128*{"a": 1 128*} | BadJson
+5000*[ 1 5000*] | BadJson
+5000*{"a": 1 5000*} | BadJson
+# An empty list or map is a level too.
+63*[ [] 63*] | =
+63*{"a": [] 63*} | =
+64*[ {} 64*] | TooDeep
+64*{"a": {} 64*} | TooDeep
+127*[ {} 127*] | BadJson
+127*{"a": {} 127*} | BadJson
+# The faults of a number come before the depth, and after what is no JSON.
+127*[ 1.5 127*] | NotWhole
+127*{"a": 1.5 127*} | NotWhole
+127*[ 9007199254740992 127*] | OutOfRange
+127*{"a": 9007199254740992 127*} | OutOfRange
+128*[ 1.5 128*] | BadJson
+128*{"a": 1.5 128*} | BadJson
+# What another value of its key replaces is no level of the value, but one of the text.
+{"a": 126*[ 126*] ,"a":1} | {"a":1}
+# Long texts, also where the fault comes last.
+[ 50000*0, 0] | =
+50000*0, 0] | BadJson
+[ [ 50000*0, 0] | BadJson
+"#;
+
+// Nothing, line breaks, and bytes that are no UTF-8.
+const BYTES: [(&[u8], &str); 8] = [
+    (b"", "BadJson"),
+    (b"\nnull\r\n", "null"),
+    (b"\"\xff\"", "BadJson"),
+    (b"\"\xc3\"", "BadJson"),
+    (b"\"\xc0\x80\"", "BadJson"),
+    (b"\"\xed\xa0\x80\"", "BadJson"),
+    (b"\"\xf4\x90\x80\x80\"", "BadJson"),
+    (b"{\"a\":\"\xff\",\"a\":1}", "BadJson"),
 ];
 
 #[test]
-fn reads_a_value_or_names_the_first_fault(rt: HostRuntime) -> Result<(), Fail> {
-    let alloc = rt.alloc();
-    for table in [NUMBERS, TEXTS, BARE, LISTS_AND_MAPS] {
-        for row in &rows(alloc, table)? {
-            let [text, wanted, ..] = cells(row);
-            reads(&rt, alloc, text.as_bytes(), wanted)?;
-        }
-    }
-    reads(&rt, alloc, b"", "BadJson")?;
-    reads(&rt, alloc, b"\nnull\r\n", "null")?;
-    for bytes in NO_TEXTS {
-        reads(&rt, alloc, bytes, "BadJson")?;
+fn values_are_read_or_the_first_fault_is_named(rt: HostRuntime) -> Result<(), Fail> {
+    plays(&rt, rt.alloc(), Call::Read, NUMBERS)?;
+    plays(&rt, rt.alloc(), Call::Read, TEXTS)?;
+    plays(&rt, rt.alloc(), Call::Read, BARE)?;
+    plays(&rt, rt.alloc(), Call::Read, LISTS_AND_MAPS)?;
+    plays(&rt, rt.alloc(), Call::ReadRepeated, REPEATED)?;
+    for (bytes, wanted) in BYTES.iter() {
+        let answer = read_text(rt.alloc(), bytes)?;
+        assert_eq!(rt; answer.as_str(), *wanted);
     }
     Ok(())
 }
 
-/// The text with so many of the one text before it and of the other behind it.
-fn nested(alloc: Global, levels: usize, round: (&str, &str), inside: &str) -> Result<String, Fail> {
-    let (opening, closing) = round;
-    let mut text = String::new(alloc);
-    for _ in 0..levels {
-        text.push_str(opening)?;
+/// What bytes are read as: what is printed of the value, or `=` for the bytes themselves, or the fault's name.
+pub(crate) fn read_text(alloc: Global, bytes: &[u8]) -> Result<String, Fail> {
+    let answer = match Val::read(alloc, bytes) {
+        Ok(val) => printed(alloc, &val)?,
+        Err(fault) => format!(in alloc; "{fault:?}")?,
+    };
+    if answer.as_bytes() == bytes {
+        return Ok(String::from_str(alloc, "=")?);
     }
-    text.push_str(inside)?;
-    for _ in 0..levels {
-        text.push_str(closing)?;
-    }
-    Ok(text)
+    Ok(answer)
 }
 
-/// How many lists or maps stand round a value, and what the whole is read as.
-const DEPTHS: [(usize, &str, &str); 12] = [
-    (63, "1", "="),
-    (64, "1", "="),
-    (65, "1", "TooDeep"),
-    (127, "1", "TooDeep"),
-    (128, "1", "BadJson"),
-    (5000, "1", "BadJson"),
-    // An empty list or map is a level too.
-    (63, "[]", "="),
-    (64, "{}", "TooDeep"),
-    (127, "{}", "BadJson"),
-    // The faults of a number come before the depth, and after what is no JSON.
-    (127, "1.5", "NotWhole"),
-    (127, "9007199254740992", "OutOfRange"),
-    (128, "1.5", "BadJson"),
-];
-
-#[test]
-fn reads_to_a_depth(rt: HostRuntime) -> Result<(), Fail> {
-    let alloc = rt.alloc();
-    for (levels, inside, wanted) in DEPTHS.iter() {
-        let lists = nested(alloc, *levels, ("[", "]"), inside)?;
-        reads(&rt, alloc, lists.as_bytes(), wanted)?;
-        let maps = nested(alloc, *levels, ("{\"a\":", "}"), inside)?;
-        reads(&rt, alloc, maps.as_bytes(), wanted)?;
-    }
-    // What another value of its key replaces is no level of the value, but one of the text.
-    let deep = nested(alloc, 126, ("[", "]"), "")?;
-    let replaced = nested(alloc, 1, ("{\"a\":", ",\"a\":1}"), deep.as_str())?;
-    reads(&rt, alloc, replaced.as_bytes(), "{\"a\":1}")
-}
-
-#[test]
-fn reads_long_texts(rt: HostRuntime) -> Result<(), Fail> {
-    let alloc = rt.alloc();
-    let list = nested(alloc, 50_000, ("0,", ""), "0]")?;
-    let unopened = list.as_str();
-    let opened = format!(in alloc; "[{unopened}")?;
-    reads(&rt, alloc, opened.as_bytes(), "=")?;
-    reads(&rt, alloc, unopened.as_bytes(), "BadJson")?;
-    // Where the fault comes last.
-    let unclosed = format!(in alloc; "[{opened}")?;
-    reads(&rt, alloc, unclosed.as_bytes(), "BadJson")
+/// What a text of parts is read as.
+pub(crate) fn read_repeated(alloc: Global, parts: &str) -> Result<String, Fail> {
+    let text = repeated(alloc, parts)?;
+    read_text(alloc, text.as_bytes())
 }
