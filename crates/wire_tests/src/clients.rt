@@ -1,13 +1,12 @@
 //! The messages of clients: what each is read from and printed as, and what is refused.
-use crate::refusals::{nested_push, refused};
-use case_tables::{cells, rows};
-use rooms_val::Val;
+use crate::refusals::refused;
+use crate::tables::{Reading, plays};
 use std::alloc::Global;
 use std::test::Fail;
 use sync_msgs::ClientMessage;
 use wire_msgs::{Message, read_client};
 
-/// A message of each form, as it is printed.
+// A message of each form, as it is printed.
 const MESSAGES: &str = r#"
 {"connectRequestId":"7","lastServerClock":-1,"protocolVersion":1,"schema":{"schemaVersion":2,"sequences":{"rooms.base":1}},"type":"connect"}
 {"connectRequestId":"","lastServerClock":9007199254740991,"protocolVersion":-3,"schema":{"schemaVersion":2,"sequences":{}},"type":"connect"}
@@ -21,15 +20,15 @@ const MESSAGES: &str = r#"
 {"type":"ping"}
 "#;
 
-/// A message as it is printed, before another text that stands for it.
+// A message as it is printed, before another text that stands for it.
 const WRITTEN_OTHERWISE: &str = r#"
 {"type":"ping"} |  { "type" : "push", "type":"p\u0069ng" }
 {"clientClock":5,"diff":{},"presence":["put",null],"type":"push"} | {"type":"push","presence":["put",null],"diff":{},"clientClock":5}
 {"connectRequestId":"7","lastServerClock":2,"protocolVersion":1,"schema":{"schemaVersion":2,"sequences":{}},"type":"connect"} | {"schema":{"sequences":{},"schemaVersion":2},"type":"connect","protocolVersion":1,"lastServerClock":2,"connectRequestId":"7"}
 "#;
 
-/// Texts that are no message of a client, each after the fault that is answered. Where several
-/// causes apply the first is answered.
+// Texts that are no message of a client, each after the fault that is answered. Where several
+// causes apply the first is answered.
 const REFUSED: &str = r#"
 BadJson | {"type":"ping"
 BadJson | {"type":"ping"} {"type":"ping"}
@@ -79,58 +78,26 @@ WrongKind | {"clientClock":1,"presence":{},"type":"push"}
 WrongKind | {"clientClock":1,"presence":null,"type":"push"}
 "#;
 
-/// The text of a message.
+// The text of a message that is read from one, or the name of what the text is refused for.
+pub(crate) fn client_text(alloc: Global, text: &str) -> Result<String, Fail> {
+    match read_client(alloc, text.as_bytes()) {
+        Ok(message) => printed(alloc, &message),
+        Err(fault) => Ok(String::from_str(alloc, refused(fault))?),
+    }
+}
+
+// The text of a message, which is that of its value.
 fn printed(alloc: Global, message: &ClientMessage) -> Result<String, Fail> {
-    Ok(String::from_utf8(message.print(alloc)?)?)
-}
-
-/// The name of what a text is refused for.
-fn fault(alloc: Global, text: &[u8]) -> &'static str {
-    match read_client(alloc, text) {
-        Ok(_) => "none",
-        Err(fault) => refused(fault),
+    let text = String::from_utf8(message.print(alloc)?)?;
+    let of_value = String::from_utf8(message.val(alloc)?.print(alloc)?)?;
+    if text.as_str() != of_value.as_str() {
+        return Err(Fail::from("a message has another text than its value"));
     }
+    Ok(text)
 }
 
 #[test]
-fn prints_each_message_as_the_text_that_was_read(rt: HostRuntime) -> Result<(), Fail> {
-    let alloc = rt.alloc();
-    for text in &rows(alloc, MESSAGES)? {
-        let message = read_client(alloc, text.as_bytes())?;
-        assert_eq!(rt; printed(alloc, &message)?.as_str(), *text);
-        let val: Val = message.val(alloc)?;
-        assert_eq!(rt; String::from_utf8(val.print(alloc)?)?.as_str(), *text);
-    }
-    Ok(())
-}
-
-#[test]
-fn reads_fields_in_any_order_and_among_blanks(rt: HostRuntime) -> Result<(), Fail> {
-    let alloc = rt.alloc();
-    for row in &rows(alloc, WRITTEN_OTHERWISE)? {
-        let [text, written, _, _] = cells(row);
-        let message = read_client(alloc, written.as_bytes())?;
-        assert_eq!(rt; printed(alloc, &message)?.as_str(), text);
-    }
-    Ok(())
-}
-
-#[test]
-fn refuses_each_text_that_is_no_message(rt: HostRuntime) -> Result<(), Fail> {
-    let alloc = rt.alloc();
-    for row in &rows(alloc, REFUSED)? {
-        let [name, text, _, _] = cells(row);
-        assert_eq!(rt; fault(alloc, text.as_bytes()), name, "{text}");
-    }
-    Ok(())
-}
-
-#[test]
-fn refuses_what_nests_deeper_than_56(rt: HostRuntime) -> Result<(), Fail> {
-    let alloc = rt.alloc();
-    assert_eq!(rt; fault(alloc, &nested_push(alloc, 56)?), "none");
-    assert_eq!(rt; fault(alloc, &nested_push(alloc, 57)?), "TooDeep");
-    assert_eq!(rt; fault(alloc, &nested_push(alloc, 64)?), "TooDeep");
-    assert_eq!(rt; fault(alloc, &nested_push(alloc, 65)?), "TooDeep");
-    Ok(())
+fn reads_and_prints_each_message_of_a_client(rt: HostRuntime) -> Result<(), Fail> {
+    let tables = [MESSAGES, WRITTEN_OTHERWISE, REFUSED];
+    plays(&rt, rt.alloc(), Reading::Client, &tables)
 }

@@ -9,3 +9,5 @@ mod pieces;
 mod refusals;
 #[cfg(test)]
 mod rooms;
+#[cfg(test)]
+mod tables;

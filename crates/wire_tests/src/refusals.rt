@@ -1,10 +1,22 @@
-//! What the tests of both sides share: the names of faults, and texts that nest.
+//! The names of faults, and texts that nest.
+use crate::tables::{Reading, plays};
 use rooms_val::ValFault;
 use std::alloc::Global;
 use std::test::Fail;
-use wire_msgs::MsgFault;
+use wire_msgs::{MsgFault, read_client, read_server};
 
-/// The name of a fault.
+// Texts that nest, each after what it is refused for: pushes of clients and data messages of rooms, so many levels deep.
+const NESTED: &str = r#"
+none | push 56
+TooDeep | push 57
+TooDeep | push 64
+TooDeep | push 65
+none | data 57
+none | data 64
+TooDeep | data 65
+"#;
+
+// The name of a fault.
 pub(crate) fn refused(fault: MsgFault) -> &'static str {
     match fault {
         MsgFault::Val(ValFault::BadJson) => "BadJson",
@@ -20,8 +32,8 @@ pub(crate) fn refused(fault: MsgFault) -> &'static str {
     }
 }
 
-/// A push so many levels deep, of at least 3: the message, its presence, and lists in what it puts.
-pub(crate) fn nested_push(alloc: Global, levels: usize) -> Result<Vec<u8>, Fail> {
+// A push so many levels deep, of at least 3: the message, its presence, and lists in what it puts.
+fn nested_push(alloc: Global, levels: usize) -> Result<Vec<u8>, Fail> {
     let mut text = Vec::new(alloc);
     text.extend_from_slice(br#"{"clientClock":1,"presence":["put","#)?;
     for _ in 2..levels {
@@ -34,9 +46,9 @@ pub(crate) fn nested_push(alloc: Global, levels: usize) -> Result<Vec<u8>, Fail>
     Ok(text)
 }
 
-/// A data message so many levels deep, of at least 6: the message, its events, one of them, its
-/// diff, an operation, and lists in what it puts.
-pub(crate) fn nested_data(alloc: Global, levels: usize) -> Result<Vec<u8>, Fail> {
+// A data message so many levels deep, of at least 6: the message, its events, one of them, its
+// diff, an operation, and lists in what it puts.
+fn nested_data(alloc: Global, levels: usize) -> Result<Vec<u8>, Fail> {
     let mut text = Vec::new(alloc);
     text.extend_from_slice(br#"{"data":[{"diff":{"page:a":["put","#)?;
     for _ in 5..levels {
@@ -47,4 +59,37 @@ pub(crate) fn nested_data(alloc: Global, levels: usize) -> Result<Vec<u8>, Fail>
     }
     text.extend_from_slice(br#"]},"serverClock":1,"type":"patch"}],"type":"data"}"#)?;
     Ok(text)
+}
+
+// The name of what a text is refused for that nests.
+pub(crate) fn nested_fault(alloc: Global, depth: &str) -> Result<String, Fail> {
+    let (word, levels) = depth.split_once(' ').unwrap_or((depth, ""));
+    let levels = levels.parse::<usize>()?;
+    let name = if word == "push" {
+        client_fault(alloc, &nested_push(alloc, levels)?)
+    } else {
+        room_fault(alloc, &nested_data(alloc, levels)?)
+    };
+    Ok(String::from_str(alloc, name)?)
+}
+
+// The name of what a text is refused for as a client's.
+fn client_fault(alloc: Global, text: &[u8]) -> &'static str {
+    match read_client(alloc, text) {
+        Ok(_) => "none",
+        Err(fault) => refused(fault),
+    }
+}
+
+// The name of what a text is refused for as a room's.
+fn room_fault(alloc: Global, text: &[u8]) -> &'static str {
+    match read_server(alloc, text) {
+        Ok(_) => "none",
+        Err(fault) => refused(fault),
+    }
+}
+
+#[test]
+fn reads_clients_56_deep_and_rooms_64(rt: HostRuntime) -> Result<(), Fail> {
+    plays(&rt, rt.alloc(), Reading::Nested, &[NESTED])
 }

@@ -1,12 +1,12 @@
 //! The messages of rooms: what each is read from and printed as, and what is refused.
-use crate::refusals::{nested_data, refused};
-use case_tables::{cells, rows};
+use crate::refusals::refused;
+use crate::tables::{Reading, plays};
 use std::alloc::Global;
 use std::test::Fail;
 use sync_msgs::ServerMessage;
 use wire_msgs::{Message, read_server};
 
-/// A message of each form, and an event of each, as it is printed.
+// A message of each form, and an event of each, as it is printed.
 const MESSAGES: &str = r#"
 {"connectRequestId":"7","diff":{"page:a":["put",{"id":"page:a"}]},"hydrationType":"wipe_all","isReadonly":false,"protocolVersion":1,"schema":{"schemaVersion":2,"sequences":{"rooms.base":1,"rooms.shape":1}},"serverClock":0,"type":"connect"}
 {"connectRequestId":"","diff":{},"hydrationType":"wipe_presence","isReadonly":true,"protocolVersion":-1,"schema":{"schemaVersion":2,"sequences":{}},"serverClock":9007199254740991,"type":"connect"}
@@ -17,15 +17,15 @@ const MESSAGES: &str = r#"
 {"type":"pong"}
 "#;
 
-/// A message as it is printed, before another text that stands for it.
+// A message as it is printed, before another text that stands for it.
 const WRITTEN_OTHERWISE: &str = r#"
 {"data":[{"diff":{},"serverClock":1,"type":"patch"}],"type":"data"} | { "type":"data", "data":[ {"type":"patch","serverClock":1,"diff":{}} ] }
 {"data":[{"action":"commit","clientClock":1,"serverClock":2,"type":"push_result"}],"type":"data"} | {"type":"data","data":[{"type":"push_result","serverClock":2,"clientClock":1,"action":"commit"}]}
 {"connectRequestId":"7","diff":{},"hydrationType":"wipe_all","isReadonly":false,"protocolVersion":1,"schema":{"schemaVersion":2,"sequences":{}},"serverClock":3,"type":"connect"} | {"type":"connect","serverClock":3,"schema":{"sequences":{},"schemaVersion":2},"protocolVersion":1,"isReadonly":false,"hydrationType":"wipe_all","diff":{},"connectRequestId":"7"}
 "#;
 
-/// Texts that are no message of a room, each after the fault that is answered. Where several causes
-/// apply the first is answered.
+// Texts that are no message of a room, each after the fault that is answered. Where several causes
+// apply the first is answered.
 const REFUSED: &str = r#"
 BadJson | {"type":"pong",}
 NotWhole | {"data":[1e2],"type":"data"}
@@ -80,57 +80,26 @@ WrongKind | {"data":[{"action":{"rebaseWithDiff":{},"x":1},"clientClock":1,"serv
 WrongKind | {"data":[{"action":"commit","clientClock":1,"serverClock":2,"type":"patch"}],"type":"data"}
 "#;
 
-/// The text of a message.
+// The text of a message that is read from one, or the name of what the text is refused for.
+pub(crate) fn room_text(alloc: Global, text: &str) -> Result<String, Fail> {
+    match read_server(alloc, text.as_bytes()) {
+        Ok(message) => printed(alloc, &message),
+        Err(fault) => Ok(String::from_str(alloc, refused(fault))?),
+    }
+}
+
+// The text of a message, which is that of its value.
 fn printed(alloc: Global, message: &ServerMessage) -> Result<String, Fail> {
-    Ok(String::from_utf8(message.print(alloc)?)?)
-}
-
-/// The name of what a text is refused for.
-fn fault(alloc: Global, text: &[u8]) -> &'static str {
-    match read_server(alloc, text) {
-        Ok(_) => "none",
-        Err(fault) => refused(fault),
+    let text = String::from_utf8(message.print(alloc)?)?;
+    let of_value = String::from_utf8(message.val(alloc)?.print(alloc)?)?;
+    if text.as_str() != of_value.as_str() {
+        return Err(Fail::from("a message has another text than its value"));
     }
+    Ok(text)
 }
 
 #[test]
-fn prints_each_message_as_the_text_that_was_read(rt: HostRuntime) -> Result<(), Fail> {
-    let alloc = rt.alloc();
-    for text in &rows(alloc, MESSAGES)? {
-        let message = read_server(alloc, text.as_bytes())?;
-        assert_eq!(rt; printed(alloc, &message)?.as_str(), *text);
-        let val = message.val(alloc)?;
-        assert_eq!(rt; String::from_utf8(val.print(alloc)?)?.as_str(), *text);
-    }
-    Ok(())
-}
-
-#[test]
-fn reads_fields_in_any_order_and_among_blanks(rt: HostRuntime) -> Result<(), Fail> {
-    let alloc = rt.alloc();
-    for row in &rows(alloc, WRITTEN_OTHERWISE)? {
-        let [text, written, _, _] = cells(row);
-        let message = read_server(alloc, written.as_bytes())?;
-        assert_eq!(rt; printed(alloc, &message)?.as_str(), text);
-    }
-    Ok(())
-}
-
-#[test]
-fn refuses_each_text_that_is_no_message(rt: HostRuntime) -> Result<(), Fail> {
-    let alloc = rt.alloc();
-    for row in &rows(alloc, REFUSED)? {
-        let [name, text, _, _] = cells(row);
-        assert_eq!(rt; fault(alloc, text.as_bytes()), name, "{text}");
-    }
-    Ok(())
-}
-
-#[test]
-fn reads_as_deep_as_a_value_may_nest(rt: HostRuntime) -> Result<(), Fail> {
-    let alloc = rt.alloc();
-    assert_eq!(rt; fault(alloc, &nested_data(alloc, 57)?), "none");
-    assert_eq!(rt; fault(alloc, &nested_data(alloc, 64)?), "none");
-    assert_eq!(rt; fault(alloc, &nested_data(alloc, 65)?), "TooDeep");
-    Ok(())
+fn reads_and_prints_each_message_of_a_room(rt: HostRuntime) -> Result<(), Fail> {
+    let tables = [MESSAGES, WRITTEN_OTHERWISE, REFUSED];
+    plays(&rt, rt.alloc(), Reading::Room, &tables)
 }
