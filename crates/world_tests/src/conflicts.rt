@@ -1,10 +1,10 @@
 //! Clients whose edits conflict.
 //!
 //! What the steps of scripts are, `world_scripts` tells.
-use crate::played::{BASE, plays};
+use crate::played::{BASE, HEADER, Script, plays};
 use std::test::Fail;
 
-/// Two clients patch the same field: each shows its own until it is told, and the patch that is handled last stands.
+// Two clients patch the same field: each shows its own until it is told, and the patch that is handled last stands.
 const TWO: &str = r#"
 edit 0 {"shape:a":["patch",{"x":["put",5]}]}
 edit 1 {"shape:a":["patch",{"x":["put",7]}]}
@@ -21,7 +21,7 @@ get 1 1
 {"do":"end"} | {"clock":3,"doc":{"page:p":$P,"shape:a":$G(a,a0,7)},"end":true,"presence":{}}
 "#;
 
-/// Three clients patch the same field, and their patches are handled in another order than they were made.
+// Three clients patch the same field, and their patches are handled in another order than they were made.
 const THREE: &str = r#"
 client 3
 open 2 2
@@ -53,7 +53,7 @@ get 2 2
 {"do":"end"} | {"clock":4,"doc":{"page:p":$P,"shape:a":$G(a,a0,7)},"end":true,"presence":{}}
 "#;
 
-/// A record that one removes and another patches is gone, whichever is handled first: here the removal.
+// A record that one removes and another patches is gone, whichever is handled first: here the removal.
 const REMOVED_FIRST: &str = r#"
 edit 0 {"shape:a":["remove"]}
 edit 1 {"shape:a":["patch",{"x":["put",9]}]}
@@ -68,7 +68,7 @@ get 0 0
 {"do":"end"} | {"clock":3,"doc":{"page:p":$P},"end":true,"presence":{}}
 "#;
 
-/// And here the patch.
+// And here the patch.
 const PATCHED_FIRST: &str = r#"
 edit 0 {"shape:a":["remove"]}
 edit 1 {"shape:a":["patch",{"x":["put",9]}]}
@@ -84,7 +84,7 @@ get 1 1
 {"do":"end"} | {"clock":3,"doc":{"page:p":$P},"end":true,"presence":{}}
 "#;
 
-/// Of two points that are appended at the same place the first stands, and the second is passed over.
+// Of two points that are appended at the same place the first stands, and the second is passed over.
 const APPENDS: &str = r#"
 edit 0 {"shape:d":["put",$D(d,a1)]}
 sync 0 0
@@ -110,7 +110,7 @@ get 0 0
 {"do":"end"} | {"clock":5,"doc":{"page:p":$P,"shape:a":$G(a,a0,0),"shape:d":{"id":"shape:d","index":"a1","isLocked":false,"meta":{},"opacity":100,"parentId":"page:p","props":{"color":"black","isClosed":false,"points":[{"x":0,"y":0},{"x":1,"y":1},{"x":2,"y":2}],"size":"m"},"rotation":0,"type":"draw","typeName":"shape","x":0,"y":0}},"end":true,"presence":{}}
 "#;
 
-/// Two clients patch two fields of a record: both patches stand.
+// Two clients patch two fields of a record: both patches stand.
 const FIELDS: &str = r#"
 edit 0 {"shape:a":["patch",{"x":["put",5]}]}
 edit 1 {"shape:a":["patch",{"opacity":["put",50]}]}
@@ -123,32 +123,41 @@ get 1 1
 {"do":"end"} | {"clock":3,"doc":{"page:p":$P,"shape:a":$G(a,a0,5,50)},"end":true,"presence":{}}
 "#;
 
-#[test]
-fn shows_its_own_of_two(rt: HostRuntime) -> Result<(), Fail> {
-    plays(&rt, rt.alloc(), &[BASE, TWO])
-}
+// Each conflict.
+const CONFLICTS: [Script; 6] = [
+    Script {
+        shows: "shows its own of two",
+        header: HEADER,
+        parts: &[BASE, TWO],
+    },
+    Script {
+        shows: "agrees on one of three",
+        header: HEADER,
+        parts: &[BASE, THREE],
+    },
+    Script {
+        shows: "removes before a patch",
+        header: HEADER,
+        parts: &[BASE, REMOVED_FIRST],
+    },
+    Script {
+        shows: "removes after a patch",
+        header: HEADER,
+        parts: &[BASE, PATCHED_FIRST],
+    },
+    Script {
+        shows: "appends one of two",
+        header: HEADER,
+        parts: &[BASE, APPENDS],
+    },
+    Script {
+        shows: "keeps patches of two fields",
+        header: HEADER,
+        parts: &[BASE, FIELDS],
+    },
+];
 
 #[test]
-fn agrees_on_one_of_three(rt: HostRuntime) -> Result<(), Fail> {
-    plays(&rt, rt.alloc(), &[BASE, THREE])
-}
-
-#[test]
-fn removes_before_a_patch(rt: HostRuntime) -> Result<(), Fail> {
-    plays(&rt, rt.alloc(), &[BASE, REMOVED_FIRST])
-}
-
-#[test]
-fn removes_after_a_patch(rt: HostRuntime) -> Result<(), Fail> {
-    plays(&rt, rt.alloc(), &[BASE, PATCHED_FIRST])
-}
-
-#[test]
-fn appends_one_of_two(rt: HostRuntime) -> Result<(), Fail> {
-    plays(&rt, rt.alloc(), &[BASE, APPENDS])
-}
-
-#[test]
-fn keeps_patches_of_two_fields(rt: HostRuntime) -> Result<(), Fail> {
-    plays(&rt, rt.alloc(), &[BASE, FIELDS])
+fn settles_each_conflict(rt: HostRuntime) -> Result<(), Fail> {
+    plays(&rt, rt.alloc(), &CONFLICTS)
 }

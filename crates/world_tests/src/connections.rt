@@ -1,17 +1,17 @@
 //! Clients that connect, lose their connection and come back.
 //!
 //! What the steps of scripts are, `world_scripts` tells.
-use crate::played::{BASE, plays, plays_from};
+use crate::played::{BASE, HEADER, Script, plays};
 use std::test::Fail;
 
-/// A client that did nothing, in a room where nobody is.
+// A client that did nothing, in a room where nobody is.
 const NOTHING: &str = r#"
 client 3
 {"client":0,"do":"show"} | {"clock":-1,"doc":{},"others":{},"owed":0,"show":0}
 {"do":"end"} | {"clock":0,"doc":{},"end":true,"presence":{}}
 "#;
 
-/// A client that edits before it connects owes its edit until the room accepted it.
+// A client that edits before it connects owes its edit until the room accepted it.
 const FIRST_EDIT: &str = r#"
 client 3
 edit 0 {"page:p":["put",$P]}
@@ -23,7 +23,7 @@ sync 0 0
 {"do":"end"} | {"clock":1,"doc":{"page:p":$P},"end":true,"presence":{}}
 "#;
 
-/// A shape that was put, of which the answer was lost, and that another removed since, is put once more.
+// A shape that was put, of which the answer was lost, and that another removed since, is put once more.
 const PUT_TWICE: &str = r#"
 edit 0 {"shape:b":["put",$G(b,a1,1)]}
 {"do":"handle","session":0}
@@ -41,7 +41,7 @@ get 1 1
 {"do":"end"} | {"clock":4,"doc":{"page:p":$P,"shape:a":$G(a,a0,0),"shape:b":$G(b,a1,1)},"end":true,"presence":{}}
 "#;
 
-/// A point that was appended, of which the answer was lost, is appended once.
+// A point that was appended, of which the answer was lost, is appended once.
 const APPENDED_TWICE: &str = r#"
 edit 0 {"shape:d":["put",$D(d,a1)]}
 sync 0 0
@@ -55,7 +55,7 @@ sync 0 2
 {"do":"end"} | {"clock":4,"doc":{"page:p":$P,"shape:a":$G(a,a0,0),"shape:d":{"id":"shape:d","index":"a1","isLocked":false,"meta":{},"opacity":100,"parentId":"page:p","props":{"color":"black","isClosed":false,"points":[{"x":0,"y":0},{"x":1,"y":1}],"size":"m"},"rotation":0,"type":"draw","typeName":"shape","x":0,"y":0}},"end":true,"presence":{}}
 "#;
 
-/// A patch of which the answer was lost is accepted twice, the second time over what another made meanwhile.
+// A patch of which the answer was lost is accepted twice, the second time over what another made meanwhile.
 const PATCHED_TWICE: &str = r#"
 edit 0 {"shape:a":["patch",{"x":["put",5]}]}
 {"do":"handle","session":0}
@@ -73,7 +73,7 @@ get 1 1
 {"do":"end"} | {"clock":4,"doc":{"page:p":$P,"shape:a":$G(a,a0,5)},"end":true,"presence":{}}
 "#;
 
-/// What a client sent before its connection was lost reaches the room after it came back, and comes to it as another's.
+// What a client sent before its connection was lost reaches the room after it came back, and comes to it as another's.
 const SENT_BEFORE: &str = r#"
 edit 0 {"shape:a":["patch",{"x":["put",5]}]}
 {"client":0,"do":"cut"}
@@ -86,7 +86,7 @@ sync 0 2
 {"do":"end"} | {"clock":3,"doc":{"page:p":$P,"shape:a":$G(a,a0,5)},"end":true,"presence":{}}
 "#;
 
-/// Of an older client what it shows and patches is migrated, both ways.
+// Of an older client what it shows and patches is migrated, both ways.
 const OLDER: &str = r#"
 client 3
 client 1
@@ -107,7 +107,7 @@ edit 1 {"shape:a":["patch",{"alpha":["put",5]}]}
 {"client":0,"do":"show"} | {"clock":2,"doc":{"page:p":$P,"shape:a":$G(a,a0,0,50)},"others":{},"owed":0,"show":0}
 "#;
 
-/// A client that is newer than the room is told so, and connects no more.
+// A client that is newer than the room is told so, and connects no more.
 const NEWER: &str = r#"
 client 3
 open 0 0 | {"client":0,"ended":"SERVER_TOO_OLD"}
@@ -122,7 +122,7 @@ open 0 0 | {"client":0,"ended":"SERVER_TOO_OLD"}
 {"do":"end"} | {"clock":0,"doc":{},"end":true,"presence":{}}
 "#;
 
-/// A read-only client's edit is discarded, and its presence is seen by others until its session is lost.
+// A read-only client's edit is discarded, and its presence is seen by others until its session is lost.
 const READ_ONLY: &str = r#"
 client 3
 client 3
@@ -148,7 +148,7 @@ get 0 0
 {"do":"end"} | {"clock":4,"doc":{"page:p":$P,"shape:a":$G(a,a0,0)},"end":true,"presence":{}}
 "#;
 
-/// What a client pushes after its session was lost goes nowhere; the client still waits.
+// What a client pushes after its session was lost goes nowhere; the client still waits.
 const LOST: &str = r#"
 {"do":"lose","session":0}
 edit 0 {"shape:a":["patch",{"x":["put",5]}]}
@@ -158,7 +158,7 @@ edit 0 {"shape:a":["patch",{"x":["put",5]}]}
 {"do":"end"} | {"clock":1,"doc":{"page:p":$P,"shape:a":$G(a,a0,0)},"end":true,"presence":{}}
 "#;
 
-/// What was sent before a session was lost is still delivered, and what is owed is pushed by the next session.
+// What was sent before a session was lost is still delivered, and what is owed is pushed by the next session.
 const DELIVERED_AFTER: &str = r#"
 edit 0 {"shape:a":["patch",{"x":["put",5]}]}
 {"do":"handle","session":0}
@@ -183,7 +183,7 @@ sync 1 2
 {"do":"end"} | {"clock":3,"doc":{"page:p":$P,"shape:a":$G(a,a0,7)},"end":true,"presence":{}}
 "#;
 
-/// Of a client whose connection is lost an edit stays its own until it comes back; others' edits reach it then.
+// Of a client whose connection is lost an edit stays its own until it comes back; others' edits reach it then.
 const CUT: &str = r#"
 {"client":0,"do":"cut"}
 edit 0 {"shape:a":["patch",{"x":["put",5]}]}
@@ -204,62 +204,71 @@ get 1 1
 {"do":"end"} | {"clock":3,"doc":{"page:p":$P,"shape:a":$G(a,a0,5,50)},"end":true,"presence":{}}
 "#;
 
-#[test]
-fn shows_that_nothing_happened(rt: HostRuntime) -> Result<(), Fail> {
-    plays(&rt, rt.alloc(), &[NOTHING])
-}
+// What connections come to.
+const CONNECTIONS: [Script; 12] = [
+    Script {
+        shows: "shows that nothing happened",
+        header: HEADER,
+        parts: &[NOTHING],
+    },
+    Script {
+        shows: "owes the edit before the first connect",
+        header: HEADER,
+        parts: &[FIRST_EDIT],
+    },
+    Script {
+        shows: "puts again what another removed",
+        header: HEADER,
+        parts: &[BASE, PUT_TWICE],
+    },
+    Script {
+        shows: "appends once what is pushed twice",
+        header: HEADER,
+        parts: &[BASE, APPENDED_TWICE],
+    },
+    Script {
+        shows: "accepts a patch twice",
+        header: HEADER,
+        parts: &[BASE, PATCHED_TWICE],
+    },
+    Script {
+        shows: "takes what was sent before a cut",
+        header: HEADER,
+        parts: &[BASE, SENT_BEFORE],
+    },
+    Script {
+        shows: "migrates for an older client",
+        header: HEADER,
+        parts: &[OLDER],
+    },
+    Script {
+        shows: "ends a newer client",
+        header: r#"{"recording":1,"version":2}"#,
+        parts: &[NEWER],
+    },
+    Script {
+        shows: "discards what a reader edits",
+        header: HEADER,
+        parts: &[READ_ONLY],
+    },
+    Script {
+        shows: "drops what goes to a lost session",
+        header: HEADER,
+        parts: &[BASE, LOST],
+    },
+    Script {
+        shows: "delivers after a session is lost",
+        header: HEADER,
+        parts: &[BASE, DELIVERED_AFTER],
+    },
+    Script {
+        shows: "keeps edits over a cut",
+        header: HEADER,
+        parts: &[BASE, CUT],
+    },
+];
 
 #[test]
-fn owes_the_edit_before_the_first_connect(rt: HostRuntime) -> Result<(), Fail> {
-    plays(&rt, rt.alloc(), &[FIRST_EDIT])
-}
-
-#[test]
-fn puts_again_what_another_removed(rt: HostRuntime) -> Result<(), Fail> {
-    plays(&rt, rt.alloc(), &[BASE, PUT_TWICE])
-}
-
-#[test]
-fn appends_once_what_is_pushed_twice(rt: HostRuntime) -> Result<(), Fail> {
-    plays(&rt, rt.alloc(), &[BASE, APPENDED_TWICE])
-}
-
-#[test]
-fn accepts_a_patch_twice(rt: HostRuntime) -> Result<(), Fail> {
-    plays(&rt, rt.alloc(), &[BASE, PATCHED_TWICE])
-}
-
-#[test]
-fn takes_what_was_sent_before_a_cut(rt: HostRuntime) -> Result<(), Fail> {
-    plays(&rt, rt.alloc(), &[BASE, SENT_BEFORE])
-}
-
-#[test]
-fn migrates_for_an_older_client(rt: HostRuntime) -> Result<(), Fail> {
-    plays(&rt, rt.alloc(), &[OLDER])
-}
-
-#[test]
-fn ends_a_newer_client(rt: HostRuntime) -> Result<(), Fail> {
-    plays_from(&rt, rt.alloc(), r#"{"recording":1,"version":2}"#, &[NEWER])
-}
-
-#[test]
-fn discards_what_a_reader_edits(rt: HostRuntime) -> Result<(), Fail> {
-    plays(&rt, rt.alloc(), &[READ_ONLY])
-}
-
-#[test]
-fn drops_what_goes_to_a_lost_session(rt: HostRuntime) -> Result<(), Fail> {
-    plays(&rt, rt.alloc(), &[BASE, LOST])
-}
-
-#[test]
-fn delivers_after_a_session_is_lost(rt: HostRuntime) -> Result<(), Fail> {
-    plays(&rt, rt.alloc(), &[BASE, DELIVERED_AFTER])
-}
-
-#[test]
-fn keeps_edits_over_a_cut(rt: HostRuntime) -> Result<(), Fail> {
-    plays(&rt, rt.alloc(), &[BASE, CUT])
+fn goes_on_over_each_connection(rt: HostRuntime) -> Result<(), Fail> {
+    plays(&rt, rt.alloc(), &CONNECTIONS)
 }

@@ -1,10 +1,10 @@
 //! Clients that take back what they did, and do it again.
 //!
 //! What the steps of scripts are, `world_scripts` tells.
-use crate::played::{BASE, plays};
+use crate::played::{BASE, HEADER, Script, plays};
 use std::test::Fail;
 
-/// An undo goes back to the last mark, which stays; a redo does it again; a bail goes back to its mark and forgets it.
+// An undo goes back to the last mark, which stays; a redo does it again; a bail goes back to its mark and forgets it.
 const BACK_AND_AGAIN: &str = r#"
 client 3
 edit 0 {"page:p":["put",$P],"shape:a":["put",$G(a,a0,0)]}
@@ -25,7 +25,7 @@ edit 0 {"shape:a":["patch",{"x":["put",3]}]}
 {"client":0,"do":"bail","name":"m"} | NoMark
 "#;
 
-/// What another client did in between stays.
+// What another client did in between stays.
 const OVER_REMOTE: &str = r#"
 {"client":0,"do":"mark","name":"m"}
 edit 0 {"shape:a":["patch",{"x":["put",5]}]}
@@ -38,7 +38,7 @@ get 0 0
 {"client":0,"do":"show"} | {"clock":3,"doc":{"page:p":$P,"shape:a":{"id":"shape:a","index":"a0","isLocked":false,"meta":{},"opacity":100,"parentId":"page:p","props":{"color":"black","dash":"draw","fill":"none","geo":"rectangle","h":10,"size":"m","text":"","w":10},"rotation":0,"type":"geo","typeName":"shape","x":0,"y":9}},"others":{},"owed":1,"show":0}
 "#;
 
-/// A bail goes back to the last mark of the name.
+// A bail goes back to the last mark of the name.
 const TWO_OF_A_NAME: &str = r#"
 {"client":0,"do":"mark","name":"m"}
 edit 0 {"shape:a":["patch",{"x":["put",1]}]}
@@ -51,7 +51,7 @@ edit 0 {"shape:a":["patch",{"x":["put",2]}]}
 {"client":0,"do":"bail","name":"m"} | NoMark
 "#;
 
-/// What an undo changes nothing of is done again by nothing, and that is no more to take back.
+// What an undo changes nothing of is done again by nothing, and that is no more to take back.
 const NOTHING_AGAIN: &str = r#"
 {"client":0,"do":"mark","name":"m"}
 edit 0 {"shape:a":["patch",{"x":["put",5]}]}
@@ -67,7 +67,7 @@ get 0 0
 {"client":0,"do":"redo"} | {"client":0,"redo":false}
 "#;
 
-/// An undo may put what isn't admitted any more: the room ends the session.
+// An undo may put what isn't admitted any more: the room ends the session.
 const NOT_ADMITTED: &str = r#"
 {"client":0,"do":"mark","name":"m"}
 edit 0 {"shape:a":["patch",{"props":["patch",{"w":["put",20]}]}]}
@@ -86,7 +86,7 @@ get 0 0 | {"client":0,"ended":"INVALID_RECORD"}
 {"client":0,"do":"connect","readonly":false} | Refused INVALID_RECORD
 "#;
 
-/// Nobody makes or goes back to marks who wasn't made.
+// Nobody makes or goes back to marks who wasn't made.
 const NO_CLIENT: &str = r#"
 client 3
 {"client":2,"do":"mark","name":"m"} | NoSuchClient
@@ -98,32 +98,41 @@ client 3
 {"client":0,"do":"undo"} | {"client":0,"undo":false}
 "#;
 
-#[test]
-fn goes_back_and_again(rt: HostRuntime) -> Result<(), Fail> {
-    plays(&rt, rt.alloc(), &[BACK_AND_AGAIN])
-}
+// What is taken back.
+const MARKS: [Script; 6] = [
+    Script {
+        shows: "goes back and again",
+        header: HEADER,
+        parts: &[BACK_AND_AGAIN],
+    },
+    Script {
+        shows: "leaves what others did",
+        header: HEADER,
+        parts: &[BASE, OVER_REMOTE],
+    },
+    Script {
+        shows: "bails to the last mark of a name",
+        header: HEADER,
+        parts: &[BASE, TWO_OF_A_NAME],
+    },
+    Script {
+        shows: "does nothing again",
+        header: HEADER,
+        parts: &[BASE, NOTHING_AGAIN],
+    },
+    Script {
+        shows: "puts what is not admitted",
+        header: HEADER,
+        parts: &[BASE, NOT_ADMITTED],
+    },
+    Script {
+        shows: "knows who was made",
+        header: HEADER,
+        parts: &[NO_CLIENT],
+    },
+];
 
 #[test]
-fn leaves_what_others_did(rt: HostRuntime) -> Result<(), Fail> {
-    plays(&rt, rt.alloc(), &[BASE, OVER_REMOTE])
-}
-
-#[test]
-fn bails_to_the_last_mark_of_a_name(rt: HostRuntime) -> Result<(), Fail> {
-    plays(&rt, rt.alloc(), &[BASE, TWO_OF_A_NAME])
-}
-
-#[test]
-fn does_nothing_again(rt: HostRuntime) -> Result<(), Fail> {
-    plays(&rt, rt.alloc(), &[BASE, NOTHING_AGAIN])
-}
-
-#[test]
-fn puts_what_is_not_admitted(rt: HostRuntime) -> Result<(), Fail> {
-    plays(&rt, rt.alloc(), &[BASE, NOT_ADMITTED])
-}
-
-#[test]
-fn knows_who_was_made(rt: HostRuntime) -> Result<(), Fail> {
-    plays(&rt, rt.alloc(), &[NO_CLIENT])
+fn takes_back_what_a_client_did(rt: HostRuntime) -> Result<(), Fail> {
+    plays(&rt, rt.alloc(), &MARKS)
 }

@@ -4,10 +4,10 @@ use std::process::Abort;
 use std::test::Fail;
 use world_scripts::first_difference;
 
-/// The header of a recording of version 3.
-const HEADER: &str = r#"{"recording":1,"version":3}"#;
+// The header of a recording of version 3.
+pub(crate) const HEADER: &str = r#"{"recording":1,"version":3}"#;
 
-/// Two clients that are connected, and have a page and a shape.
+// Two clients that are connected, and have a page and a shape.
 pub(crate) const BASE: &str = r#"
 client 3
 client 3
@@ -18,20 +18,26 @@ sync 0 0
 get 1 1
 "#;
 
-/// Asserts that a new world of version 3 answers scripts as they say.
-pub(crate) fn plays(rt: &impl Abort, alloc: Global, scripts: &[&str]) -> Result<(), Fail> {
-    plays_from(rt, alloc, HEADER, scripts)
+// A script that is played in a world of its own.
+pub(crate) struct Script<'a> {
+    // What it shows.
+    pub(crate) shows: &'a str,
+    // The header of the recording.
+    pub(crate) header: &'a str,
+    // Its parts, one after the other.
+    pub(crate) parts: &'a [&'a str],
 }
 
-/// Asserts that the new world of a header answers scripts as they say.
-pub(crate) fn plays_from(
+// Asserts that a new world answers each script as it says.
+pub(crate) fn plays<'a>(
     rt: &impl Abort,
     alloc: Global,
-    header: &str,
-    scripts: &[&str],
+    scripts: &'a [Script<'a>],
 ) -> Result<(), Fail> {
-    if let Some(difference) = first_difference(alloc, header, scripts)? {
-        assert_eq!(rt; difference.as_str(), "");
+    for script in scripts {
+        if let Some(difference) = first_difference(alloc, script.header, script.parts)? {
+            assert_eq!(rt; difference.as_str(), "", "{}", script.shows);
+        }
     }
     Ok(())
 }

@@ -1,10 +1,10 @@
 //! What a world refuses, and that it is as before then.
 //!
 //! What the steps of scripts are, `world_scripts` tells.
-use crate::played::{BASE, plays};
+use crate::played::{BASE, HEADER, Script, plays};
 use std::test::Fail;
 
-/// What is refused, after which everything is as before: an edit that was owed, and what was in flight, too.
+// What is refused, after which everything is as before: an edit that was owed, and what was in flight, too.
 const REFUSED: &str = r#"
 edit 0 {"shape:a":["patch",{"x":["put",5]}]}
 {"client":0,"do":"show"} | {"clock":1,"doc":{"page:p":$P,"shape:a":$G(a,a0,5)},"others":{},"owed":1,"show":0}
@@ -40,7 +40,7 @@ get 1 1
 {"do":"end"} | {"clock":2,"doc":{"page:p":$P,"shape:a":$G(a,a0,5)},"end":true,"presence":{}}
 "#;
 
-/// Nothing is in flight to a session before the room handled its request.
+// Nothing is in flight to a session before the room handled its request.
 const TOO_SOON: &str = r#"
 client 3
 {"client":0,"do":"deliver"} | NoSuchSession
@@ -55,7 +55,7 @@ sync 0 0
 {"do":"end"} | {"clock":0,"doc":{},"end":true,"presence":{}}
 "#;
 
-/// There is no 65th client.
+// There is no 65th client.
 const CLIENTS: &str = r#"
 times 64 {"do":"client","version":3}
 client 3 | Limit
@@ -67,17 +67,26 @@ open 63 0
 {"do":"end"} | {"clock":0,"doc":{},"end":true,"presence":{}}
 "#;
 
+// What is refused.
+const REFUSALS: [Script; 3] = [
+    Script {
+        shows: "leaves the world when it refuses",
+        header: HEADER,
+        parts: &[BASE, REFUSED],
+    },
+    Script {
+        shows: "has nothing to deliver too soon",
+        header: HEADER,
+        parts: &[TOO_SOON],
+    },
+    Script {
+        shows: "refuses the 65th client",
+        header: HEADER,
+        parts: &[CLIENTS],
+    },
+];
+
 #[test]
 fn leaves_the_world_when_it_refuses(rt: HostRuntime) -> Result<(), Fail> {
-    plays(&rt, rt.alloc(), &[BASE, REFUSED])
-}
-
-#[test]
-fn has_nothing_to_deliver_too_soon(rt: HostRuntime) -> Result<(), Fail> {
-    plays(&rt, rt.alloc(), &[TOO_SOON])
-}
-
-#[test]
-fn refuses_the_65th_client(rt: HostRuntime) -> Result<(), Fail> {
-    plays(&rt, rt.alloc(), &[CLIENTS])
+    plays(&rt, rt.alloc(), &REFUSALS)
 }

@@ -1,10 +1,10 @@
 //! What clients watch and ask for.
 //!
 //! What the steps of scripts are, `world_scripts` tells.
-use crate::played::{BASE, plays};
+use crate::played::{BASE, HEADER, Script, plays};
 use std::test::Fail;
 
-/// A client tells what its own edits change, and what it takes back; a view that is the same it tells no more.
+// A client tells what its own edits change, and what it takes back; a view that is the same it tells no more.
 const OWN: &str = r#"
 client 3
 edit 0 {"page:p":["put",$P],"shape:a":["put",$G(a,a1,200)],"shape:f":["put",{"id":"shape:f","index":"a0","isLocked":false,"meta":{},"opacity":100,"parentId":"page:p","props":{"h":50,"name":"","w":100},"rotation":0,"type":"frame","typeName":"shape","x":10,"y":0}]}
@@ -31,7 +31,7 @@ edit 0 {"shape:f":["remove"]} | {"client":0,"told":null,"watch":0} and {"client"
 watch 0 {"count":"page:p"} | {"client":0,"told":0,"watch":4}
 "#;
 
-/// What others do is told when it comes, unless the client's own edits hide it; also after a connection was lost.
+// What others do is told when it comes, unless the client's own edits hide it; also after a connection was lost.
 const REMOTE: &str = r#"
 watch 0 {"box":"shape:a"} | {"client":0,"told":{"h":10,"w":10,"x":0,"y":0},"watch":0}
 watch 1 {"tree":"page:p"} | {"client":1,"told":["shape:a"],"watch":0}
@@ -61,7 +61,7 @@ get 1 1 | {"client":1,"told":{"h":10,"w":10,"x":9,"y":0},"watch":1}
 get 1 1 | {"client":1,"told":[],"watch":0} and {"client":1,"told":null,"watch":1}
 "#;
 
-/// What the room discards of a client's edits is told back.
+// What the room discards of a client's edits is told back.
 const DISCARDED: &str = r#"
 client 3
 {"client":2,"do":"connect","readonly":true}
@@ -71,7 +71,7 @@ edit 2 {"shape:a":["patch",{"x":["put",9]}]} | {"client":2,"told":{"h":10,"w":10
 sync 2 2 | {"client":2,"told":{"h":10,"w":10,"x":0,"y":0},"watch":0}
 "#;
 
-/// A client has no 65th watch, and its watches have numbers of their own.
+// A client has no 65th watch, and its watches have numbers of their own.
 const WATCHES: &str = r#"
 times 64 {"client":1,"do":"watch","view":{"count":"page:p"}} | {"client":1,"told":1,"watch":0} and {"client":1,"told":1,"watch":1} and {"client":1,"told":1,"watch":2} and {"client":1,"told":1,"watch":3} and {"client":1,"told":1,"watch":4} and {"client":1,"told":1,"watch":5} and {"client":1,"told":1,"watch":6} and {"client":1,"told":1,"watch":7} and {"client":1,"told":1,"watch":8} and {"client":1,"told":1,"watch":9} and {"client":1,"told":1,"watch":10} and {"client":1,"told":1,"watch":11} and {"client":1,"told":1,"watch":12} and {"client":1,"told":1,"watch":13} and {"client":1,"told":1,"watch":14} and {"client":1,"told":1,"watch":15} and {"client":1,"told":1,"watch":16} and {"client":1,"told":1,"watch":17} and {"client":1,"told":1,"watch":18} and {"client":1,"told":1,"watch":19} and {"client":1,"told":1,"watch":20} and {"client":1,"told":1,"watch":21} and {"client":1,"told":1,"watch":22} and {"client":1,"told":1,"watch":23} and {"client":1,"told":1,"watch":24} and {"client":1,"told":1,"watch":25} and {"client":1,"told":1,"watch":26} and {"client":1,"told":1,"watch":27} and {"client":1,"told":1,"watch":28} and {"client":1,"told":1,"watch":29} and {"client":1,"told":1,"watch":30} and {"client":1,"told":1,"watch":31} and {"client":1,"told":1,"watch":32} and {"client":1,"told":1,"watch":33} and {"client":1,"told":1,"watch":34} and {"client":1,"told":1,"watch":35} and {"client":1,"told":1,"watch":36} and {"client":1,"told":1,"watch":37} and {"client":1,"told":1,"watch":38} and {"client":1,"told":1,"watch":39} and {"client":1,"told":1,"watch":40} and {"client":1,"told":1,"watch":41} and {"client":1,"told":1,"watch":42} and {"client":1,"told":1,"watch":43} and {"client":1,"told":1,"watch":44} and {"client":1,"told":1,"watch":45} and {"client":1,"told":1,"watch":46} and {"client":1,"told":1,"watch":47} and {"client":1,"told":1,"watch":48} and {"client":1,"told":1,"watch":49} and {"client":1,"told":1,"watch":50} and {"client":1,"told":1,"watch":51} and {"client":1,"told":1,"watch":52} and {"client":1,"told":1,"watch":53} and {"client":1,"told":1,"watch":54} and {"client":1,"told":1,"watch":55} and {"client":1,"told":1,"watch":56} and {"client":1,"told":1,"watch":57} and {"client":1,"told":1,"watch":58} and {"client":1,"told":1,"watch":59} and {"client":1,"told":1,"watch":60} and {"client":1,"told":1,"watch":61} and {"client":1,"told":1,"watch":62} and {"client":1,"told":1,"watch":63}
 watch 1 {"tree":"page:p"} | Limit
@@ -80,7 +80,7 @@ watch 0 {"tree":"page:p"} | {"client":0,"told":["shape:a"],"watch":0}
 edit 1 {"shape:a":["patch",{"x":["put",1]}]}
 "#;
 
-/// A query of each form, asked of what its client shows.
+// A query of each form, asked of what its client shows.
 const QUERIES: &str = r#"
 edit 0 {"shape:b":["put",$G(b,a1,3)],"shape:c":["put",$G(c,a2,7,50)]}
 query 0 shape ["eq","x",3] | {"client":0,"ids":["shape:b"],"query":true}
@@ -106,7 +106,7 @@ query 1 shape ["and",[]] | {"client":1,"ids":["shape:a"],"query":true}
 query 2 shape ["and",[]] | NoSuchClient
 "#;
 
-/// A client of an older version watches and asks what it shows at its version.
+// A client of an older version watches and asks what it shows at its version.
 const OLDER: &str = r#"
 client 3
 client 1
@@ -121,24 +121,41 @@ query 1 shape ["eq","opacity",50] | {"client":1,"ids":[],"query":true}
 query 1 shape ["eq","alpha",5] | {"client":1,"ids":["shape:a"],"query":true}
 "#;
 
-#[test]
-fn tells_what_its_client_does(rt: HostRuntime) -> Result<(), Fail> {
-    plays(&rt, rt.alloc(), &[OWN])
-}
+// What is watched and asked.
+const VIEWS: [Script; 6] = [
+    Script {
+        shows: "tells what its client does",
+        header: HEADER,
+        parts: &[OWN],
+    },
+    Script {
+        shows: "tells what others do",
+        header: HEADER,
+        parts: &[BASE, REMOTE],
+    },
+    Script {
+        shows: "tells back what is discarded",
+        header: HEADER,
+        parts: &[BASE, DISCARDED],
+    },
+    Script {
+        shows: "numbers 64 watches",
+        header: HEADER,
+        parts: &[BASE, WATCHES],
+    },
+    Script {
+        shows: "asks what its client shows",
+        header: HEADER,
+        parts: &[BASE, QUERIES],
+    },
+    Script {
+        shows: "asks at the version of its client",
+        header: HEADER,
+        parts: &[OLDER],
+    },
+];
 
 #[test]
-fn tells_what_others_do(rt: HostRuntime) -> Result<(), Fail> {
-    plays(&rt, rt.alloc(), &[BASE, REMOTE])?;
-    plays(&rt, rt.alloc(), &[BASE, DISCARDED])
-}
-
-#[test]
-fn numbers_64_watches(rt: HostRuntime) -> Result<(), Fail> {
-    plays(&rt, rt.alloc(), &[BASE, WATCHES])
-}
-
-#[test]
-fn asks_what_its_client_shows(rt: HostRuntime) -> Result<(), Fail> {
-    plays(&rt, rt.alloc(), &[BASE, QUERIES])?;
-    plays(&rt, rt.alloc(), &[OLDER])
+fn tells_and_answers_each_client(rt: HostRuntime) -> Result<(), Fail> {
+    plays(&rt, rt.alloc(), &VIEWS)
 }
