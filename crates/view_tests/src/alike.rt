@@ -13,20 +13,45 @@ fn alike(rt: &impl Abort, alloc: Global, script: &str) -> Result<(), Fail> {
     Ok(())
 }
 
+// Calls that are drawn by a small rule.
+struct Drawing {
+    // The number that the draws begin with.
+    first: u16,
+    // How many calls there are.
+    count: u16,
+    // After how many of them the stores are looked at.
+    looks: u16,
+}
+
+const DRAWINGS: [Drawing; 2] = [
+    Drawing {
+        first: 1,
+        count: 300,
+        looks: 1,
+    },
+    Drawing {
+        first: 2,
+        count: 300,
+        looks: 20,
+    },
+];
+
+// Asserts that the stores are alike after calls that are drawn.
+fn alike_by(rt: &impl Abort, alloc: Global, table: &[Drawing]) -> Result<(), Fail> {
+    for row in table {
+        let script = drawn(alloc, row.first, row.count, row.looks)?;
+        alike(rt, alloc, script.as_str())?;
+    }
+    Ok(())
+}
+
 #[test]
 fn three_hundred_calls_leave_what_a_plain_store_has(rt: HostRuntime) -> Result<(), Fail> {
-    let alloc = rt.alloc();
-    alike(&rt, alloc, drawn(alloc, 1, 300, 1)?.as_str())
+    alike_by(&rt, rt.alloc(), &DRAWINGS)
 }
 
-#[test]
-fn what_is_asked_seldom_is_what_plain_queries_say(rt: HostRuntime) -> Result<(), Fail> {
-    let alloc = rt.alloc();
-    alike(&rt, alloc, drawn(alloc, 2, 300, 20)?.as_str())
-}
-
-/// Three calls in two transactions, of which the inner one is aborted and the outer one committed; then two under a page
-/// that goes and comes again.
+// Three calls in two transactions, of which the inner one is aborted and the outer one committed; then two under a page
+// that goes and comes again.
 const NESTED: &str = r#"
 page p
 begin

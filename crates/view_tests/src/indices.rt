@@ -1,17 +1,17 @@
 //! Queries with an index of the shapes' x beside the same without.
 //!
 //! What the steps of scripts are, `store_scripts` tells.
-use crate::played::{GRID, plays};
+use crate::played::{GRID, Script, plays};
 use std::test::Fail;
 
-/// A grid of which the index has all values.
+// A grid of which the index has all values.
 const REFRESHED: &str = r#"
 since | never
 refresh
 since | 0
 "#;
 
-/// Queries that the index answers alone, in part, and not at all.
+// Queries that the index answers alone, in part, and not at all.
 const ANSWERS: &str = r#"
 find shape x=500 | s05 s15 s25 s35 s45 s55 s65 s75 s85 s95
 find shape x>800 | s09 s19 s29 s39 s49 s59 s69 s79 s89 s99
@@ -27,7 +27,7 @@ find page typeName="page" | page:p
 find page x=500
 "#;
 
-/// Three writes are told the index one by one.
+// Three writes are told the index one by one.
 const DIFFERENCES: &str = r#"
 set shape:s01 x 500
 set shape:s02 x 7
@@ -55,7 +55,7 @@ find shape x=7 | s02 s15
 query shape x=7 | s02 s15
 "#;
 
-/// 256 writes are told one by one, and of 257 it isn't known what they were.
+// 256 writes are told one by one, and of 257 it isn't known what they were.
 const RESET: &str = r#"
 each 1 256 set shape:s02 x @
 since | 256
@@ -72,7 +72,7 @@ find shape x=256
 find shape x=500 | s05 s15 s25 s35 s45 s55 s65 s75 s85 s95
 "#;
 
-/// Writes of a transaction are told once it is committed, and those of an aborted one never.
+// Writes of a transaction are told once it is committed, and those of an aborted one never.
 const COMMITTED: &str = r#"
 begin
 set shape:s01 x 7
@@ -91,22 +91,27 @@ query shape x=8 | s01 s02
 find shape x=7
 "#;
 
+// What indices answer.
+const INDICES: [Script; 4] = [
+    Script {
+        shows: "an index answers what a walk does",
+        parts: &[GRID, REFRESHED, ANSWERS],
+    },
+    Script {
+        shows: "an index is brought up by differences",
+        parts: &[GRID, REFRESHED, DIFFERENCES],
+    },
+    Script {
+        shows: "an index is made anew after 257 writes",
+        parts: &[GRID, REFRESHED, RESET],
+    },
+    Script {
+        shows: "an index is told of committed writes",
+        parts: &[GRID, REFRESHED, COMMITTED],
+    },
+];
+
 #[test]
 fn an_index_answers_what_a_walk_does(rt: HostRuntime) -> Result<(), Fail> {
-    plays(&rt, rt.alloc(), &[GRID, REFRESHED, ANSWERS])
-}
-
-#[test]
-fn an_index_is_brought_up_by_differences(rt: HostRuntime) -> Result<(), Fail> {
-    plays(&rt, rt.alloc(), &[GRID, REFRESHED, DIFFERENCES])
-}
-
-#[test]
-fn an_index_is_made_anew_after_257_writes(rt: HostRuntime) -> Result<(), Fail> {
-    plays(&rt, rt.alloc(), &[GRID, REFRESHED, RESET])
-}
-
-#[test]
-fn an_index_is_told_of_committed_writes(rt: HostRuntime) -> Result<(), Fail> {
-    plays(&rt, rt.alloc(), &[GRID, REFRESHED, COMMITTED])
+    plays(&rt, rt.alloc(), &INDICES)
 }

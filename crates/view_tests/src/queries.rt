@@ -1,10 +1,10 @@
 //! Which of 100 shapes meet a query.
 //!
 //! What the steps of scripts are, `store_scripts` tells.
-use crate::played::{GRID, plays};
+use crate::played::{GRID, Script, plays};
 use std::test::Fail;
 
-/// One condition.
+// One condition.
 const CONDITIONS: &str = r#"
 query shape x=500 | s05 s15 s25 s35 s45 s55 s65 s75 s85 s95
 query shape type="frame" | f0 f1 f2 f3 f4 f5 f6 f7 f8 f9
@@ -24,7 +24,7 @@ query page typeName="page" | page:p
 query binding x=500
 "#;
 
-/// Several conditions.
+// Several conditions.
 const JOINED: &str = r#"
 query shape x=500 parentId="shape:f3" and:2 | s35
 query shape parentId="shape:f3" x>600 y=10 and:3 | s37 s38 s39
@@ -41,12 +41,19 @@ query shape or:0
 query shape or:0 not:1 | 100: f0 .. s99
 "#;
 
-#[test]
-fn a_condition_picks_a_column_or_a_row(rt: HostRuntime) -> Result<(), Fail> {
-    plays(&rt, rt.alloc(), &[GRID, CONDITIONS])
-}
+// What conditions pick.
+const QUERIES: [Script; 2] = [
+    Script {
+        shows: "a condition picks a column or a row",
+        parts: &[GRID, CONDITIONS],
+    },
+    Script {
+        shows: "conditions are joined and denied",
+        parts: &[GRID, JOINED],
+    },
+];
 
 #[test]
-fn conditions_are_joined_and_denied(rt: HostRuntime) -> Result<(), Fail> {
-    plays(&rt, rt.alloc(), &[GRID, JOINED])
+fn conditions_pick_what_meets_them(rt: HostRuntime) -> Result<(), Fail> {
+    plays(&rt, rt.alloc(), &QUERIES)
 }

@@ -1,17 +1,17 @@
 //! What is asked after transactions that are aborted, and after calls that are refused.
 //!
 //! What the steps of scripts are, `store_scripts` tells.
-use crate::played::{GRID, plays};
+use crate::played::{GRID, Script, plays};
 use std::test::Fail;
 
-/// A grid, of which a box and the count are watched and were told.
+// A grid, of which a box and the count are watched and were told.
 const WATCHED: &str = r#"
 watch box shape:f3 | 0
 watch count page:p | 1
 told | 0:{"h":50,"w":910,"x":0,"y":300} 1:100
 "#;
 
-/// What is asked and told of that grid.
+// What is asked and told of that grid.
 const UNCHANGED: &str = r#"
 ask box shape:f3 | 0 300 910 50
 ask count page:p | 100
@@ -21,7 +21,7 @@ query shape x=900 | s09 s19 s29 s39 s49 s59 s69 s79 s89 s99
 told
 "#;
 
-/// A transaction that is aborted; what is asked in it is asked of what was written in it.
+// A transaction that is aborted; what is asked in it is asked of what was written in it.
 const ABORTED: &str = r#"
 commit | none is open
 abort | none is open
@@ -37,7 +37,7 @@ told | one is open
 abort
 "#;
 
-/// What was committed into a transaction is aborted with it.
+// What was committed into a transaction is aborted with it.
 const NESTED: &str = r#"
 begin
 geo n a0 page:p 0 0
@@ -51,7 +51,7 @@ ask box shape:f3 | 0 300 810 50
 abort
 "#;
 
-/// The 17th transaction is refused. A write takes none of these.
+// The 17th transaction is refused. A write takes none of these.
 const REFUSED: &str = r#"
 each 1 16 begin
 begin | too nested
@@ -65,17 +65,23 @@ each 1 15 commit
 abort | none is open
 "#;
 
-#[test]
-fn an_aborted_write_leaves_what_is_asked(rt: HostRuntime) -> Result<(), Fail> {
-    plays(&rt, rt.alloc(), &[GRID, WATCHED, ABORTED, UNCHANGED])
-}
+// What is left as it was.
+const TRANSACTIONS: [Script; 3] = [
+    Script {
+        shows: "an aborted write leaves what is asked",
+        parts: &[GRID, WATCHED, ABORTED, UNCHANGED],
+    },
+    Script {
+        shows: "what an aborted transaction committed goes",
+        parts: &[GRID, WATCHED, NESTED, UNCHANGED],
+    },
+    Script {
+        shows: "a refused transaction leaves what is asked",
+        parts: &[GRID, WATCHED, REFUSED, UNCHANGED],
+    },
+];
 
 #[test]
-fn what_an_aborted_transaction_committed_goes(rt: HostRuntime) -> Result<(), Fail> {
-    plays(&rt, rt.alloc(), &[GRID, WATCHED, NESTED, UNCHANGED])
-}
-
-#[test]
-fn a_refused_transaction_leaves_what_is_asked(rt: HostRuntime) -> Result<(), Fail> {
-    plays(&rt, rt.alloc(), &[GRID, WATCHED, REFUSED, UNCHANGED])
+fn a_transaction_that_goes_leaves_what_is_asked(rt: HostRuntime) -> Result<(), Fail> {
+    plays(&rt, rt.alloc(), &TRANSACTIONS)
 }

@@ -1,10 +1,10 @@
 //! What is asked of a board of 100 shapes, and what views tell of it.
 //!
 //! What the steps of scripts are, `store_scripts` tells.
-use crate::played::{GRID, plays};
+use crate::played::{GRID, Script, plays};
 use std::test::Fail;
 
-/// Trees, counts and children.
+// Trees, counts and children.
 const TREES: &str = r#"
 ask count page:p | 100
 ask tree page:p | 100: f0 .. s99
@@ -30,7 +30,7 @@ take shape:s99
 ask tree page:p | 88: f0 .. s98
 "#;
 
-/// Boxes of shapes and of frames with what hangs under them.
+// Boxes of shapes and of frames with what hangs under them.
 const BOXES: &str = r#"
 ask box shape:s35 | 500 10 10 10
 ask box shape:f3 | 0 300 910 50
@@ -55,7 +55,7 @@ ask box shape:f4 | none
 ask box shape:g | none
 "#;
 
-/// Bindings of shapes.
+// Bindings of shapes.
 const BINDINGS: &str = r#"
 bind 1 s11 s22
 bind 2 s22 s33
@@ -78,7 +78,7 @@ take shape:s11
 ask bound shape:s11 | binding:3
 "#;
 
-/// What views tell.
+// What views tell.
 const VIEWS: &str = r#"
 bind 1 s11 s22
 view count page:p | 100
@@ -91,22 +91,27 @@ view tree shape:f1 | ["shape:s11","shape:s12","shape:s13","shape:s14","shape:s15
 view tree shape:s11 | []
 "#;
 
-#[test]
-fn trees_and_counts_of_a_grid(rt: HostRuntime) -> Result<(), Fail> {
-    plays(&rt, rt.alloc(), &[GRID, TREES])
-}
-
-#[test]
-fn boxes_of_a_grid(rt: HostRuntime) -> Result<(), Fail> {
-    plays(&rt, rt.alloc(), &[GRID, BOXES])
-}
-
-#[test]
-fn bindings_of_a_grid(rt: HostRuntime) -> Result<(), Fail> {
-    plays(&rt, rt.alloc(), &[GRID, BINDINGS])
-}
+// What is asked of the grid.
+const VIEWED: [Script; 4] = [
+    Script {
+        shows: "trees and counts of a grid",
+        parts: &[GRID, TREES],
+    },
+    Script {
+        shows: "boxes of a grid",
+        parts: &[GRID, BOXES],
+    },
+    Script {
+        shows: "bindings of a grid",
+        parts: &[GRID, BINDINGS],
+    },
+    Script {
+        shows: "views tell of a grid",
+        parts: &[GRID, VIEWS],
+    },
+];
 
 #[test]
 fn views_tell_of_a_grid(rt: HostRuntime) -> Result<(), Fail> {
-    plays(&rt, rt.alloc(), &[GRID, VIEWS])
+    plays(&rt, rt.alloc(), &VIEWED)
 }

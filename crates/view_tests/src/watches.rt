@@ -1,10 +1,10 @@
 //! What watches have to tell.
 //!
 //! What the steps of scripts are, `store_scripts` tells.
-use crate::played::{GRID, plays};
+use crate::played::{GRID, Script, plays};
 use std::test::Fail;
 
-/// A new watch is told once, and then what changes.
+// A new watch is told once, and then what changes.
 const TOLD: &str = r#"
 told
 watch count page:p | 0
@@ -34,7 +34,7 @@ geo n a0 page:p 0 0
 told | 0:90 2:[]
 "#;
 
-/// A number whose watch ends is the next one's, which is told in its turn.
+// A number whose watch ends is the next one's, which is told in its turn.
 const ENDED: &str = r#"
 unwatch 0 | not watched
 watch count page:p | 0
@@ -48,7 +48,7 @@ told | 0:{"h":50,"w":910,"x":0,"y":100} 1:null
 told
 "#;
 
-/// The 65th watch is refused, and what was told stays told.
+// The 65th watch is refused, and what was told stays told.
 const FULL: &str = r#"
 watch count page:p | 0
 told | 0:100
@@ -61,7 +61,7 @@ unwatch 1
 each 1 2 watch count page:p | full
 "#;
 
-/// The store's own call tells the same, with answers of its own.
+// The store's own call tells the same, with answers of its own.
 const DUE: &str = r#"
 watch count page:p | 0
 watch box shape:f3 | 1
@@ -75,22 +75,27 @@ told | 0:90 1:null
 due
 "#;
 
-#[test]
-fn a_watch_is_told_once_and_where_it_changed(rt: HostRuntime) -> Result<(), Fail> {
-    plays(&rt, rt.alloc(), &[GRID, TOLD])
-}
+// What watches tell.
+const WATCHES: [Script; 4] = [
+    Script {
+        shows: "a watch is told once and where it changed",
+        parts: &[GRID, TOLD],
+    },
+    Script {
+        shows: "a watch that ends is told no more",
+        parts: &[GRID, ENDED],
+    },
+    Script {
+        shows: "the 65th watch is full",
+        parts: &[GRID, FULL],
+    },
+    Script {
+        shows: "due tells what told would",
+        parts: &[GRID, DUE],
+    },
+];
 
 #[test]
-fn a_watch_that_ends_is_told_no_more(rt: HostRuntime) -> Result<(), Fail> {
-    plays(&rt, rt.alloc(), &[GRID, ENDED])
-}
-
-#[test]
-fn the_65th_watch_is_full(rt: HostRuntime) -> Result<(), Fail> {
-    plays(&rt, rt.alloc(), &[GRID, FULL])
-}
-
-#[test]
-fn due_tells_what_told_would(rt: HostRuntime) -> Result<(), Fail> {
-    plays(&rt, rt.alloc(), &[GRID, DUE])
+fn a_watch_is_told_where_it_changed(rt: HostRuntime) -> Result<(), Fail> {
+    plays(&rt, rt.alloc(), &WATCHES)
 }
