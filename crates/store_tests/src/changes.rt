@@ -26,12 +26,12 @@ fn since_in<L: Ledger>(
     list.since(alloc, clock, &mut steps)
 }
 
-/// The changes after a clock. The steps are counted for nobody.
+// The changes after a clock. The steps are counted for nobody.
 fn since(alloc: Global, list: &ChangeList, clock: i64) -> Mem<Vec<Change>> {
     since_in::<Brand>(Blank::new(1), alloc, list, clock)
 }
 
-/// The changes after a clock, each as its id, whether it is live, and its clock.
+// The changes after a clock, each as its id, whether it is live, and its clock.
 fn told(alloc: Global, list: &ChangeList, clock: i64) -> Result<String, Fail> {
     let mut text = String::new(alloc);
     for change in &since(alloc, list, clock)? {
@@ -42,7 +42,7 @@ fn told(alloc: Global, list: &ChangeList, clock: i64) -> Result<String, Fail> {
     Ok(text)
 }
 
-/// A list where `a` was touched at 1, `b` at 2, and `a` buried at 3.
+// A list where `a` was touched at 1, `b` at 2, and `a` buried at 3.
 fn two_touched_and_one_buried(alloc: Global) -> Mem<ChangeList>
     ensures { IfOk result (λ list. AreUpTo (pos 3) (listed list)) }
 {
@@ -54,7 +54,7 @@ fn two_touched_and_one_buried(alloc: Global) -> Mem<ChangeList>
     Ok(list)
 }
 
-/// A list of changes, and a clock that none of them is after.
+// A list of changes, and a clock that none of them is after.
 #[derive(Drop)]
 struct Clocked {
     list: ChangeList,
@@ -63,7 +63,7 @@ struct Clocked {
 }
 
 impl Clocked {
-    /// Touches a new id at the next clock, and buries it at the same one.
+    // Touches a new id at the next clock, and buries it at the same one.
     fn bury_next(&mut self, alloc: Global) -> Mem<()> {
         let clock = self.clock.saturating_add(1);
         let id = format!(in alloc; "shape:{clock}")?;
@@ -72,49 +72,138 @@ impl Clocked {
         self.clock = clock;
         Ok(())
     }
+
+    // Drops the oldest dead where there are too many, and tells whether it did.
+    fn prune(&mut self) -> bool {
+        self.list.prune()
+    }
+}
+
+// That list where `a` was touched again at 4.
+fn touched_again(alloc: Global) -> Mem<ChangeList> {
+    let mut list = two_touched_and_one_buried(alloc)?;
+    list.touch(Text::of(alloc, "a")?, 4)?;
+    Ok(list)
+}
+
+// What is told of a list since a clock.
+struct Telling {
+    // Whether it is the list where `a` was touched again.
+    again: bool,
+    // The clock.
+    clock: i64,
+    // The changes.
+    wanted: &'static str,
+}
+
+const TELLINGS: [Telling; 4] = [
+    Telling {
+        again: false,
+        clock: 1,
+        wanted: "a dead 3;b live 2;",
+    },
+    Telling {
+        again: false,
+        clock: 2,
+        wanted: "a dead 3;",
+    },
+    Telling {
+        again: false,
+        clock: 3,
+        wanted: "",
+    },
+    Telling {
+        again: true,
+        clock: 0,
+        wanted: "a live 4;b live 2;",
+    },
+];
+
+// What is told of one of the lists since a clock.
+fn told_of(alloc: Global, again: bool, clock: i64) -> Result<String, Fail> {
+    if again {
+        return told(alloc, &touched_again(alloc)?, clock);
+    }
+    told(alloc, &two_touched_and_one_buried(alloc)?, clock)
+}
+
+// Asserts what is told.
+fn tells(rt: &impl Abort, alloc: Global, table: &[Telling]) -> Result<(), Fail> {
+    for row in table {
+        let found = told_of(alloc, row.again, row.clock)?;
+        assert_eq!(rt; found.as_str(), row.wanted);
+    }
+    Ok(())
 }
 
 #[test]
 fn tells_what_changed_since_a_clock(rt: HostRuntime) -> Result<(), Fail> {
-    let alloc = rt.alloc();
-    let mut list = two_touched_and_one_buried(alloc)?;
-    assert_eq!(rt; told(alloc, &list, 1)?.as_str(), "a dead 3;b live 2;");
-    assert_eq!(rt; told(alloc, &list, 2)?.as_str(), "a dead 3;");
-    assert_eq!(rt; told(alloc, &list, 3)?.as_str(), "");
-    list.touch(Text::of(alloc, "a")?, 4)?;
-    assert_eq!(rt; told(alloc, &list, 0)?.as_str(), "a live 4;b live 2;");
+    tells(&rt, rt.alloc(), &TELLINGS)
+}
+
+// A pruning after so many more burials.
+struct Pruning {
+    // How many more are buried.
+    buried: u32,
+    // Whether some are dropped.
+    drops: bool,
+    // How many changes there are then, all of them after the clock where the dead begin.
+    count: usize,
+    // The clock where the dead begin.
+    start: i64,
+}
+
+const PRUNINGS: [Pruning; 3] = [
+    Pruning {
+        buried: 3_000,
+        drops: false,
+        count: 3_000,
+        start: 0,
+    },
+    Pruning {
+        buried: 1,
+        drops: true,
+        count: 2_700,
+        start: 301,
+    },
+    Pruning {
+        buried: 0,
+        drops: false,
+        count: 2_700,
+        start: 301,
+    },
+];
+
+// Buries so many new ids.
+fn bury(clocked: &mut Clocked, alloc: Global, count: u32) -> Mem<()> {
+    for _ in 0..count {
+        clocked.bury_next(alloc)?;
+    }
     Ok(())
 }
 
-/// Asserts how many changes a list has, all of them after a clock, where its dead begin.
-fn has(
-    rt: &impl Abort,
-    alloc: Global,
-    list: &ChangeList,
-    count: usize,
-    start: i64,
-) -> Result<(), Fail> {
-    assert_eq!(rt; list.starts_at(), start);
-    assert_eq!(rt; since(alloc, list, 0)?.len(), count);
-    assert_eq!(rt; since(alloc, list, start)?.len(), count);
+// How many changes a list has after a clock.
+fn count_since(alloc: Global, list: &ChangeList, clock: i64) -> Mem<usize> {
+    Ok(since(alloc, list, clock)?.len())
+}
+
+// Asserts what each pruning leaves of a list.
+fn prunes(rt: &impl Abort, alloc: Global, table: &[Pruning]) -> Result<(), Fail> {
+    let mut clocked = Clocked {
+        list: ChangeList::new(alloc)?,
+        clock: 0,
+    };
+    for row in table {
+        bury(&mut clocked, alloc, row.buried)?;
+        assert_eq!(rt; clocked.prune(), row.drops);
+        assert_eq!(rt; clocked.list.starts_at(), row.start);
+        assert_eq!(rt; count_since(alloc, &clocked.list, 0)?, row.count);
+        assert_eq!(rt; count_since(alloc, &clocked.list, row.start)?, row.count);
+    }
     Ok(())
 }
 
 #[test]
 fn prunes_where_more_than_three_thousand_are_dead(rt: HostRuntime) -> Result<(), Fail> {
-    let alloc = rt.alloc();
-    let mut clocked = Clocked {
-        list: ChangeList::new(alloc)?,
-        clock: 0,
-    };
-    for _ in 0..3_000u32 {
-        clocked.bury_next(alloc)?;
-    }
-    assert!(rt; !clocked.list.prune());
-    has(&rt, alloc, &clocked.list, 3_000, 0)?;
-    clocked.bury_next(alloc)?;
-    assert!(rt; clocked.list.prune());
-    has(&rt, alloc, &clocked.list, 2_700, 301)?;
-    assert!(rt; !clocked.list.prune());
-    has(&rt, alloc, &clocked.list, 2_700, 301)
+    prunes(&rt, rt.alloc(), &PRUNINGS)
 }

@@ -14,3 +14,5 @@ mod marks;
 mod shapes;
 #[cfg(test)]
 mod stores;
+#[cfg(test)]
+mod tables;

@@ -1,12 +1,14 @@
 //! What lists by index hold after each call.
-ghost use Rattle.std.specs.Prelude.{◌≡◌, ◌<◌, length};
+ghost use Rattle.std.specs.Prelude.{◌≡◌, ◌<◌, length, OnOk};
 ghost use Rattle.links_core.specs.Lists.{IsLinked};
 
 use links_core::{Links, ListId};
+use rooms_val::Mem;
 use std::alloc::Global;
+use std::process::Abort;
 use std::test::Fail;
 
-/// The nodes of a list from the first on, at most so many; `None` where the way back isn't the same.
+// The nodes of a list from the first on, at most so many; `None` where the way back isn't the same.
 fn nodes_of(
     alloc: Global,
     links: &Links,
@@ -35,7 +37,7 @@ fn nodes_of(
     Ok(Some(nodes))
 }
 
-/// Takes a node out of its list and puts it at the end of one.
+// Takes a node out of its list and puts it at the end of one.
 fn hang(links: &mut Links, node: usize, list: ListId)
     requires linked { IsLinked links.old.lists node }
     requires made { node < links.old.count }
@@ -46,7 +48,7 @@ fn hang(links: &mut Links, node: usize, list: ListId)
     links.push_back(list, node);
 }
 
-/// Hangs the first node of a list, where there is one, at the end of another.
+// Hangs the first node of a list, where there is one, at the end of another.
 fn hang_first(links: &mut Links, from: ListId, to: ListId)
     requires from { from.number < length links.old.lists }
     requires to { to.number < length links.old.lists }
@@ -57,7 +59,7 @@ fn hang_first(links: &mut Links, from: ListId, to: ListId)
     }
 }
 
-/// Hangs the last node of a list, where there is one, at the end of another.
+// Hangs the last node of a list, where there is one, at the end of another.
 fn hang_last(links: &mut Links, from: ListId, to: ListId)
     requires from { from.number < length links.old.lists }
     requires to { to.number < length links.old.lists }
@@ -68,7 +70,7 @@ fn hang_last(links: &mut Links, from: ListId, to: ListId)
     }
 }
 
-/// Moves the first node of a list, where there is one, to its end.
+// Moves the first node of a list, where there is one, to its end.
 fn turn(links: &mut Links, list: ListId)
     requires { list.number < length links.old.lists }
     ensures { length links.new.lists ≡ length links.old.lists }
@@ -78,7 +80,24 @@ fn turn(links: &mut Links, list: ListId)
     }
 }
 
-/// The same on plain lists.
+// Step n of a row of steps on two lists: mostly the first of the left one goes to the right one, or to its own end.
+fn step(links: &mut Links, left: ListId, right: ListId, n: u32)
+    requires left { left.number < length links.old.lists }
+    requires right { right.number < length links.old.lists }
+    ensures { length links.new.lists ≡ length links.old.lists }
+{
+    if n % 7 == 6 {
+        hang_last(links, right, left);
+    } else if n % 5 < 2 {
+        hang_first(links, left, right);
+    } else if n % 3 == 0 {
+        hang_first(links, right, left);
+    } else {
+        turn(links, left);
+    }
+}
+
+// The first of a plain list, which goes.
 fn take_first(from: &mut Vec<usize>) -> Option<usize> {
     if from.is_empty() {
         return None;
@@ -86,20 +105,78 @@ fn take_first(from: &mut Vec<usize>) -> Option<usize> {
     Some(from.remove(0))
 }
 
+// The node that step n takes on plain lists.
+fn take(left: &mut Vec<usize>, right: &mut Vec<usize>, n: u32) -> Option<usize> {
+    if n % 7 == 6 {
+        return right.pop();
+    }
+    if n % 5 < 2 {
+        return take_first(left);
+    }
+    if n % 3 == 0 {
+        return take_first(right);
+    }
+    take_first(left)
+}
+
+// Step n on plain lists.
+fn plain_step(left: &mut Vec<usize>, right: &mut Vec<usize>, n: u32) -> Mem<()> {
+    let Some(node) = take(left, right, n) else {
+        return Ok(());
+    };
+    if n % 7 != 6 && n % 5 < 2 {
+        right.push(node)?;
+    } else {
+        left.push(node)?;
+    }
+    Ok(())
+}
+
+// Makes so many nodes at the end of a list.
+fn fill(links: &mut Links, list: ListId, count: usize) -> Result<(), Fail>
+    requires { list.number < length links.old.lists }
+    ensures { OnOk result (length links.new.lists ≡ length links.old.lists) }
+{
+    'made: for _ in 0..count {
+        let node = links.node()?;
+        links.push_back(list, node);
+    }
+    Ok(())
+}
+
+// The first so many numbers.
+fn numbers(alloc: Global, count: usize) -> Mem<Vec<usize>> {
+    let mut numbers = Vec::new(alloc);
+    for number in 0..count {
+        numbers.push(number)?;
+    }
+    Ok(numbers)
+}
+
+// Asserts that a list has what a plain one has.
+fn has(
+    rt: &impl Abort,
+    alloc: Global,
+    links: &Links,
+    list: ListId,
+    plain: &[usize],
+) -> Result<(), Fail>
+    requires { list.number < length links.now.lists }
+{
+    let nodes = nodes_of(alloc, links, list, 8)?.ok_or("the list is threaded one way")?;
+    assert_eq!(rt; nodes.as_slice(), plain);
+    Ok(())
+}
+
 #[test]
 fn a_node_moves_to_the_back(rt: HostRuntime) -> Result<(), Fail> {
     let mut links = Links::new(rt.alloc());
     links.reserve(2)?;
     let list = links.list()?;
-    let first = links.node()?;
-    let second = links.node()?;
-    assert_eq!(rt; (first, second), (0, 1));
-    links.push_back(list, first);
-    links.push_back(list, second);
+    fill(&mut links, list, 2)?;
+    has(&rt, rt.alloc(), &links, list, &[0, 1])?;
     turn(&mut links, list);
-    assert_eq!(rt; links.first(list), Some(1));
-    assert_eq!(rt; links.last(list), Some(0));
-    Ok(())
+    has(&rt, rt.alloc(), &links, list, &[1, 0])
 }
 
 #[test]
@@ -108,40 +185,15 @@ fn two_hundred_steps_leave_what_plain_lists_have(rt: HostRuntime) -> Result<(), 
     let mut links = Links::new(alloc);
     let left = links.list()?;
     let right = links.list()?;
-    let mut plain_left = Vec::new(alloc);
+    fill(&mut links, left, 7)?;
+    let mut plain_left = numbers(alloc, 7)?;
     let mut plain_right = Vec::new(alloc);
-    'made: for number in 0..7 {
-        let node = links.node()?;
-        assert_eq!(rt; node, number);
-        links.push_back(left, node);
-        plain_left.push(node)?;
-    }
-    'steps: for step in 0..200 {
-        if step % 7 == 6 {
-            hang_last(&mut links, right, left);
-            if let Some(node) = plain_right.pop() {
-                plain_left.push(node)?;
-            }
-        } else if step % 5 < 2 {
-            hang_first(&mut links, left, right);
-            if let Some(node) = take_first(&mut plain_left) {
-                plain_right.push(node)?;
-            }
-        } else if step % 3 == 0 {
-            hang_first(&mut links, right, left);
-            if let Some(node) = take_first(&mut plain_right) {
-                plain_left.push(node)?;
-            }
-        } else {
-            turn(&mut links, left);
-            if let Some(node) = take_first(&mut plain_left) {
-                plain_left.push(node)?;
-            }
-        }
-        let in_left = nodes_of(alloc, &links, left, 8)?.ok_or("left is threaded one way")?;
-        let in_right = nodes_of(alloc, &links, right, 8)?.ok_or("right is threaded one way")?;
-        assert_eq!(rt; in_left.as_slice(), plain_left.as_slice());
-        assert_eq!(rt; in_right.as_slice(), plain_right.as_slice());
+    has(&rt, alloc, &links, left, &plain_left)?;
+    'steps: for n in 0..200u32 {
+        step(&mut links, left, right, n);
+        plain_step(&mut plain_left, &mut plain_right, n)?;
+        has(&rt, alloc, &links, left, &plain_left)?;
+        has(&rt, alloc, &links, right, &plain_right)?;
     }
     Ok(())
 }
