@@ -1,17 +1,17 @@
 //! The limits of a room, at both sides.
 //!
 //! What the steps of scripts are, `room_scripts` tells.
-use crate::played::plays;
+use crate::played::{Script, plays};
 use std::test::Fail;
 
-/// A session.
+// A session.
 const ONE: &str = r#"
 enter | 0
 connect 0 3 -1 | entered
 drain 0 | wipe_all 0 {}
 "#;
 
-/// Three sessions, of which two stay at clock 0.
+// Three sessions, of which two stay at clock 0.
 const THREE: &str = r#"
 enter | 0
 connect 0 3 -1 | entered
@@ -24,7 +24,7 @@ connect 2 3 -1 | entered
 drain 2 | wipe_all 0 {}
 "#;
 
-/// The document has at most 16,384 records.
+// The document has at most 16,384 records.
 const NUMBER: &str = r#"
 bulk 0 1 10000 16383 "page:@":["put",$E(@)] | taken
 drain 0 | 1 push 1 commit
@@ -47,7 +47,7 @@ presence 0 8 ["put",$R(0,ann)] | taken
 drain 0 | 8 push 8 commit
 "#;
 
-/// The records of the document weigh at most 2,097,152 together: 64 of the greatest weight, 32,768.
+// The records of the document weigh at most 2,097,152 together: 64 of the greatest weight, 32,768.
 const WEIGHT: &str = r#"
 bulk 0 1 10 64 "page:@":["put",$E(@,~32724~)] | taken
 drain 0 | 1 push 1 commit
@@ -71,7 +71,7 @@ push 0 9 {"page:a":["patch",{"name":["put","abc"]}]} | taken
 drain 0 | 9 push 9 discard
 "#;
 
-/// 3,000 removals are remembered, and of 3,001 the 301 oldest are forgotten, which were at clock 2.
+// 3,000 removals are remembered, and of 3,001 the 301 oldest are forgotten, which were at clock 2.
 const PRUNED: &str = r#"
 bulk 0 1 10000 3001 "page:@":["put",$E(@)] | taken
 bulk 0 2 10000 301 "page:@":["remove"] | taken
@@ -95,8 +95,8 @@ count 5 | wipe_presence 4: 2700 operations, 2700 removes
 count 1 | 4 events: 6002 operations, 3001 removes
 "#;
 
-/// Below the start a session that is exactly 32 entries behind goes on, and one that is 33 behind is ended; at the start it
-/// goes on, and is told what changed.
+// Below the start a session that is exactly 32 entries behind goes on, and one that is 33 behind is ended; at the start it
+// goes on, and is told what changed.
 const SLOW: &str = r#"
 bulk 0 1 10000 3001 "page:@":["put",$E(@)] | taken
 count 2 | 1 events: 3001 operations, 0 removes
@@ -124,7 +124,7 @@ count 3 | 1 events: 2700 operations, 2700 removes
 clock | 35
 "#;
 
-/// One push ends two sessions: the second has a presence, whose removal is the entry by which the first is too far behind.
+// One push ends two sessions: the second has a presence, whose removal is the entry by which the first is too far behind.
 const TWO_SLOW: &str = r#"
 bulk 0 1 10000 3001 "page:@":["put",$E(@)] | taken
 presence 2 1 ["put",$R(x,bob)] | taken
@@ -146,7 +146,7 @@ drain 0 | 35 push 34 commit, 36 {"instance_presence:2":["remove"]}
 presences | {}
 "#;
 
-/// One push makes two sessions too slow, both with a presence: the one with the lesser number is ended first.
+// One push makes two sessions too slow, both with a presence: the one with the lesser number is ended first.
 const TWO_SLOW_IN_ORDER: &str = r#"
 presence 2 1 ["put",$R(2,bob)] | taken
 presence 1 1 ["put",$R(1,ann)] | taken
@@ -166,28 +166,69 @@ drain 1 | end SLOW
 drain 2 | end SLOW
 "#;
 
+// How many records are kept.
+const RECORDS: [Script; 1] = [Script {
+    shows: "keeps 16384 records and no more",
+    last: 1_000,
+    parts: &[ONE, NUMBER],
+}];
+
 #[test]
 fn keeps_16384_records_and_no_more(rt: HostRuntime) -> Result<(), Fail> {
-    plays(&rt, rt.alloc(), 1_000, &[ONE, NUMBER])
+    plays(&rt, rt.alloc(), &RECORDS)
 }
+
+// How heavy they may be.
+const WEIGHTS: [Script; 1] = [Script {
+    shows: "keeps a weight of 2097152 and no more",
+    last: 1_000,
+    parts: &[ONE, WEIGHT],
+}];
 
 #[test]
 fn keeps_a_weight_of_2097152_and_no_more(rt: HostRuntime) -> Result<(), Fail> {
-    plays(&rt, rt.alloc(), 1_000, &[ONE, WEIGHT])
+    plays(&rt, rt.alloc(), &WEIGHTS)
 }
+
+// How many removals are remembered.
+const REMOVALS: [Script; 1] = [Script {
+    shows: "forgets the oldest of 3001 removals",
+    last: 1_000,
+    parts: &[THREE, PRUNED],
+}];
 
 #[test]
 fn forgets_the_oldest_of_3001_removals(rt: HostRuntime) -> Result<(), Fail> {
-    plays(&rt, rt.alloc(), 1_000, &[THREE, PRUNED])
+    plays(&rt, rt.alloc(), &REMOVALS)
 }
+
+// Who is too far behind.
+const BEHINDS: [Script; 1] = [Script {
+    shows: "ends who is 33 behind below the start",
+    last: 1_000,
+    parts: &[THREE, SLOW],
+}];
 
 #[test]
 fn ends_who_is_33_behind_below_the_start(rt: HostRuntime) -> Result<(), Fail> {
-    plays(&rt, rt.alloc(), 1_000, &[THREE, SLOW])
+    plays(&rt, rt.alloc(), &BEHINDS)
 }
+
+// Two who are too far behind at once.
+const ENDED: [Script; 2] = [
+    Script {
+        shows: "ends two sessions by one push",
+        last: 1_000,
+        parts: &[THREE, TWO_SLOW],
+    },
+    Script {
+        shows: "ends the session of the lesser number first",
+        last: 1_000,
+        parts: &[THREE, TWO_SLOW_IN_ORDER],
+    },
+];
 
 #[test]
 fn ends_two_sessions_by_one_push(rt: HostRuntime) -> Result<(), Fail> {
-    plays(&rt, rt.alloc(), 1_000, &[THREE, TWO_SLOW])?;
-    plays(&rt, rt.alloc(), 1_000, &[THREE, TWO_SLOW_IN_ORDER])
+    plays(&rt, rt.alloc(), &ENDED)
 }

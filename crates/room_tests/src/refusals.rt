@@ -1,10 +1,10 @@
 //! Who is refused, and why.
 //!
 //! What the steps of scripts are, `room_scripts` tells.
-use crate::played::plays;
+use crate::played::{Script, plays};
 use std::test::Fail;
 
-/// Connects and pushes that end their session.
+// Connects and pushes that end their session.
 const ENDS: &str = r#"
 enter | 0
 connect 0 none -1 | CLIENT_TOO_OLD
@@ -51,7 +51,7 @@ presence 10 1 ["put",{}] | INVALID_RECORD
 clock | 0
 "#;
 
-/// Pushes of a session that may push up to the clock 2.
+// Pushes of a session that may push up to the clock 2.
 const FULL_CLOCK: &str = r#"
 enter | 0
 connect 0 3 -1 | entered
@@ -63,7 +63,7 @@ drain 0 | end ROOM_FULL
 clock | 2
 "#;
 
-/// Sessions up to the 64th enter, and another if one leaves; an ended one stays until it does.
+// Sessions up to the 64th enter, and another if one leaves; an ended one stays until it does.
 const FULL_ROOM: &str = r#"
 fill 64 | 64
 enter | Full
@@ -78,17 +78,26 @@ enter | Full
 clock | 0
 "#;
 
-#[test]
-fn ends_who_says_what_it_must_not(rt: HostRuntime) -> Result<(), Fail> {
-    plays(&rt, rt.alloc(), 1_000, &[ENDS])
-}
+// Who is refused.
+const REFUSALS: [Script; 3] = [
+    Script {
+        shows: "ends who says what it must not",
+        last: 1_000,
+        parts: &[ENDS],
+    },
+    Script {
+        shows: "refuses the push after its last clock",
+        last: 2,
+        parts: &[FULL_CLOCK],
+    },
+    Script {
+        shows: "refuses the 65th session",
+        last: 1_000,
+        parts: &[FULL_ROOM],
+    },
+];
 
 #[test]
-fn refuses_the_push_after_its_last_clock(rt: HostRuntime) -> Result<(), Fail> {
-    plays(&rt, rt.alloc(), 2, &[FULL_CLOCK])
-}
-
-#[test]
-fn refuses_the_65th_session(rt: HostRuntime) -> Result<(), Fail> {
-    plays(&rt, rt.alloc(), 1_000, &[FULL_ROOM])
+fn refuses_who_must_not_go_on(rt: HostRuntime) -> Result<(), Fail> {
+    plays(&rt, rt.alloc(), &REFUSALS)
 }

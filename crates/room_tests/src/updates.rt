@@ -1,10 +1,10 @@
 //! What sessions are sent.
 //!
 //! What the steps of scripts are, `room_scripts` tells.
-use crate::played::plays;
+use crate::played::{Script, plays};
 use std::test::Fail;
 
-/// Two sessions, of which the first puts a page and a shape.
+// Two sessions, of which the first puts a page and a shape.
 const BASE: &str = r#"
 enter | 0
 connect 0 3 -1 | entered
@@ -17,7 +17,7 @@ drain 0 | 1 push 1 commit
 drain 1 | 1 {"page:p":["put",$P],"shape:a":["put",$G(a,a0,0)]}
 "#;
 
-/// A patch of what another session has removed is discarded; an entry is told also if it is empty.
+// A patch of what another session has removed is discarded; an entry is told also if it is empty.
 const REMOVED: &str = r#"
 push 0 2 {"shape:a":["remove"]} | taken
 push 1 1 {"shape:a":["patch",{"x":["put",9]}]} | taken
@@ -26,7 +26,7 @@ drain 0 | 2 push 2 commit, 3 {}
 drain 0 | nothing
 "#;
 
-/// Another session is told a put with the whole record, and a patch as it is.
+// Another session is told a put with the whole record, and a patch as it is.
 const PUT: &str = r#"
 push 0 2 {"shape:a":["put",$G(a,a0,3,50)]} | taken
 push 0 3 {"shape:a":["patch",{"x":["put",5]}]} | taken
@@ -35,7 +35,7 @@ drain 0 | 2 push 2 commit, 3 push 3 commit
 record shape:a | $G(a,a0,5,50)
 "#;
 
-/// A client comes back after its shape was removed: it is told the removal, and puts the shape again.
+// A client comes back after its shape was removed: it is told the removal, and puts the shape again.
 const BACK_AFTER_A_REMOVAL: &str = r#"
 push 0 2 {"shape:b":["put",$G(b,a1,1)]} | taken
 drain 1 | 2 {"shape:b":["put",$G(b,a1,1)]}
@@ -48,7 +48,7 @@ drain 2 | 4 push 3 commit
 record shape:b | $G(b,a1,1)
 "#;
 
-/// A client comes back whose append was accepted, and appends at the same place again: there is one more point, not two.
+// A client comes back whose append was accepted, and appends at the same place again: there is one more point, not two.
 const BACK_AFTER_AN_APPEND: &str = r#"
 push 0 2 {"shape:d":["put",$D(d,a1)]} | taken
 drain 0 | 2 push 2 commit
@@ -61,7 +61,7 @@ drain 2 | 4 push 4 commit
 record shape:d | {"id":"shape:d","index":"a1","isLocked":false,"meta":{},"opacity":100,"parentId":"page:p","props":{"color":"black","isClosed":false,"points":[{"x":0,"y":0},{"x":1,"y":1}],"size":"m"},"rotation":0,"type":"draw","typeName":"shape","x":0,"y":0}
 "#;
 
-/// The first session has version 3 and the second version 1, which edits.
+// The first session has version 3 and the second version 1, which edits.
 const OLD: &str = r#"
 enter | 0
 connect 0 3 -1 | entered
@@ -78,7 +78,7 @@ drain 1 | 2 push 1 rebase {"shape:a":["put",$G1(a,a0,0,5)]}
 drain 0 | 2 {"shape:a":["put",$G(a,a0,0,50)]}
 "#;
 
-/// A read-only session edits, which is discarded, and sets its presence, which is taken; then it leaves.
+// A read-only session edits, which is discarded, and sets its presence, which is taken; then it leaves.
 const READ_ONLY: &str = r#"
 enter | 0
 connect 0 3 -1 | entered
@@ -107,7 +107,7 @@ drain 0 | 5 {"instance_presence:1":["remove"]}
 presences | {"instance_presence:0":$R(0,bob)}
 "#;
 
-/// Pings are answered one by one before what happened, and after the answer to a connect.
+// Pings are answered one by one before what happened, and after the answer to a connect.
 const PINGS: &str = r#"
 push 1 1 - | taken
 ping 0 | pong
@@ -124,7 +124,7 @@ drain 2 | pong
 drain 2 | nothing
 "#;
 
-/// 32 entries are told one by one, and 33 as what changed, after the results of the session's own pushes.
+// 32 entries are told one by one, and 33 as what changed, after the results of the session's own pushes.
 const BEHIND: &str = r#"
 each 0 2 32 "shape:a":["patch",{"x":["put",@]}] | taken
 count 1 | 32 events: 32 operations, 0 removes
@@ -138,7 +138,7 @@ drain 1 | 99 push 1 rebase {}, 99 {"page:p":["put",{"id":"page:p","index":"a0","
 count 0 | 33 events: 2 operations, 1 removes
 "#;
 
-/// A board in one entry, and 40 patches of one shape: a session at clock 1 is told that shape, and one at clock 41 nothing.
+// A board in one entry, and 40 patches of one shape: a session at clock 1 is told that shape, and one at clock 41 nothing.
 const ONE_OF_MANY: &str = r#"
 enter | 0
 connect 0 3 -1 | entered
@@ -155,7 +155,7 @@ connect 2 3 41 | entered
 drain 2 | wipe_presence 41 {}
 "#;
 
-/// A client above the clock lacks everything, and one at the clock nothing.
+// A client above the clock lacks everything, and one at the clock nothing.
 const ABOVE: &str = r#"
 enter | 2
 connect 2 3 2 | entered
@@ -171,7 +171,7 @@ connect 5 3 -1 | entered
 drain 5 | wipe_all 1 {"page:p":["put",$P],"shape:a":["put",$G(a,a0,0)]}
 "#;
 
-/// Three sessions of three versions edit in turn, and each is told what happened as its version has it.
+// Three sessions of three versions edit in turn, and each is told what happened as its version has it.
 const THREE_VERSIONS: &str = r#"
 enter | 0
 connect 0 1 -1 | entered
@@ -215,37 +215,66 @@ connect 5 3 3 | entered
 drain 5 | wipe_presence 4 {"shape:a":["put",$G(a,a0,7,45)],"shape:b":["remove"]}
 "#;
 
-#[test]
-fn tells_each_entry_to_others_and_its_result_to_who_pushed(rt: HostRuntime) -> Result<(), Fail> {
-    plays(&rt, rt.alloc(), 1_000, &[BASE, REMOVED])?;
-    plays(&rt, rt.alloc(), 1_000, &[BASE, PUT])
-}
+// What is sent.
+const UPDATES: [Script; 11] = [
+    Script {
+        shows: "tells each entry to others and its result to who pushed",
+        last: 1_000,
+        parts: &[BASE, REMOVED],
+    },
+    Script {
+        shows: "tells a put with the whole record",
+        last: 1_000,
+        parts: &[BASE, PUT],
+    },
+    Script {
+        shows: "takes up with who comes back",
+        last: 1_000,
+        parts: &[BASE, BACK_AFTER_A_REMOVAL],
+    },
+    Script {
+        shows: "appends once for who comes back",
+        last: 1_000,
+        parts: &[BASE, BACK_AFTER_AN_APPEND],
+    },
+    Script {
+        shows: "tells who is above the clock everything",
+        last: 1_000,
+        parts: &[BASE, ABOVE],
+    },
+    Script {
+        shows: "speaks to each in its version",
+        last: 1_000,
+        parts: &[OLD],
+    },
+    Script {
+        shows: "speaks three versions",
+        last: 1_000,
+        parts: &[THREE_VERSIONS],
+    },
+    Script {
+        shows: "looks at no diff of who reads alone",
+        last: 1_000,
+        parts: &[READ_ONLY],
+    },
+    Script {
+        shows: "answers pings before what happened",
+        last: 1_000,
+        parts: &[BASE, PINGS],
+    },
+    Script {
+        shows: "tells 33 entries as what changed",
+        last: 1_000,
+        parts: &[BASE, BEHIND],
+    },
+    Script {
+        shows: "tells one shape of many",
+        last: 1_000,
+        parts: &[ONE_OF_MANY],
+    },
+];
 
 #[test]
-fn takes_up_with_who_comes_back(rt: HostRuntime) -> Result<(), Fail> {
-    plays(&rt, rt.alloc(), 1_000, &[BASE, BACK_AFTER_A_REMOVAL])?;
-    plays(&rt, rt.alloc(), 1_000, &[BASE, BACK_AFTER_AN_APPEND])?;
-    plays(&rt, rt.alloc(), 1_000, &[BASE, ABOVE])
-}
-
-#[test]
-fn speaks_to_each_in_its_version(rt: HostRuntime) -> Result<(), Fail> {
-    plays(&rt, rt.alloc(), 1_000, &[OLD])?;
-    plays(&rt, rt.alloc(), 1_000, &[THREE_VERSIONS])
-}
-
-#[test]
-fn looks_at_no_diff_of_who_reads_alone(rt: HostRuntime) -> Result<(), Fail> {
-    plays(&rt, rt.alloc(), 1_000, &[READ_ONLY])
-}
-
-#[test]
-fn answers_pings_before_what_happened(rt: HostRuntime) -> Result<(), Fail> {
-    plays(&rt, rt.alloc(), 1_000, &[BASE, PINGS])
-}
-
-#[test]
-fn tells_33_entries_as_what_changed(rt: HostRuntime) -> Result<(), Fail> {
-    plays(&rt, rt.alloc(), 1_000, &[BASE, BEHIND])?;
-    plays(&rt, rt.alloc(), 1_000, &[ONE_OF_MANY])
+fn sends_each_session_what_happened(rt: HostRuntime) -> Result<(), Fail> {
+    plays(&rt, rt.alloc(), &UPDATES)
 }
