@@ -1,0 +1,4 @@
+pub mod Events
+pub mod Legal
+pub mod Told
+pub mod Following

@@ -1,0 +1,65 @@
+//! Laws of what a session is told by the replies of a legal list.
+ghost use Rattle.std.specs.Prelude.{◌≡◌, ℕ, pos, List, ◌∷◌, ◌++◌, slice_get};
+ghost use Rattle.std.specs.Prelude.{Some, None};
+ghost use Rattle.room_model.specs.Schemas.{Schemas, AreLawful, Plan};
+ghost use Rattle.room_model.specs.Histories.{oldest};
+ghost use Rattle.room_model.specs.Rooms.{live, Session};
+ghost use Rattle.room_events.specs.Events.{events_of};
+ghost use Rattle.room_events.specs.Following.{Follower, IsOf, AreResultsOf, request_of};
+ghost use Rattle.room_events.specs.Following.{replica_of, told_replica};
+ghost use Rattle.room_events.specs.Legal.{Legal, state_of};
+ghost use Rattle.room_events.specs.Told.{told_up_to, GoOnFrom};
+ghost use Rattle.room_events.specs.declared.room_event.RoomEvent.{RoomEvent};
+ghost use Rattle.room_events.specs.declared.room_event.RoomEvent.TheVariants as call;
+ghost use Rattle.sync_msgs.specs.declared.data_event.DataEvent.{DataEvent};
+ghost use Rattle.sync_msgs.specs.declared.out.Out.TheVariants as out;
+ghost use Rattle.sync_msgs.specs.declared.server_message.ServerMessage.{ServerMessage};
+ghost use Rattle.sync_msgs.specs.declared.server_message.ServerMessage.TheVariants as reply;
+
+/// The sent clock of a live session is that up to which it was told by what it was given: the clock
+/// of its snapshot, or of the last event of the last updates after that (`sent`). And updates to a
+/// session go on from there: their events are at the next clocks, or, in a catch-up, all at one
+/// later clock (`updates`).
+pub fn told_in_order()
+    ensures sent { (schemas : Schemas) (last : ℕ) (events : List RoomEvent) (number : ℕ)
+        (session : Session) (clock : ℕ) (plan : Plan) → Legal schemas last events
+        → slice_get (state_of schemas last events).sessions number ≡ Some session
+        → session.phase ≡ live clock plan
+        → told_up_to (events_of number events) ≡ Some (pos clock) }
+    ensures updates { (schemas : Schemas) (last : ℕ) (before after : List RoomEvent) (number : ℕ)
+        (told : List DataEvent)
+        → Legal schemas last
+        (before ++ call.Drain number (Some (out.Message (reply.Data told))) ∷ after)
+        → (clock : ℕ) × (told_up_to (events_of number before) ≡ Some (pos clock))
+        × GoOnFrom clock told }
+{}
+
+/// A client whose messages are those of its session, in order, and that had reached no clock when
+/// it connected, has the room's base at the clock up to which it was told, seen along its plan; and
+/// pending are the items that its session's entries up to there don't answer.
+pub fn clients_follow()
+    ensures { (schemas : Schemas) (last : ℕ) (events : List RoomEvent) (number : ℕ)
+        (client : Follower) (clock : ℕ) → AreLawful schemas → Legal schemas last events
+        → IsOf schemas client (events_of number events)
+        → told_up_to (events_of number events) ≡ Some (pos clock)
+        → replica_of schemas client (events_of number events)
+        ≡ told_replica schemas client number
+        (oldest clock (state_of schemas last events).history) }
+{}
+
+/// What such a client is given it expects: a snapshot only under its own request, and only one
+/// (`snapshots`); and the results in updates are those of the first items that are pending then, in
+/// order (`results`). That the clocks of updates don't fall is said by `told_in_order`.
+pub fn replies_are_expected()
+    ensures snapshots { (schemas : Schemas) (last : ℕ) (before after : List RoomEvent) (number : ℕ)
+        (client : Follower) (told : ServerMessage) (request : List ℕ) → AreLawful schemas
+        → Legal schemas last (before ++ call.Drain number (Some (out.Message told)) ∷ after)
+        → IsOf schemas client (events_of number before) → request_of told ≡ Some request
+        → (told_up_to (events_of number before) ≡ None) × (request ≡ client.request) }
+    ensures results { (schemas : Schemas) (last : ℕ) (before after : List RoomEvent) (number : ℕ)
+        (client : Follower) (told : List DataEvent) → AreLawful schemas
+        → Legal schemas last
+        (before ++ call.Drain number (Some (out.Message (reply.Data told))) ∷ after)
+        → IsOf schemas client (events_of number before)
+        → AreResultsOf (replica_of schemas client (events_of number before)).pending told }
+{}
