@@ -1,13 +1,10 @@
 //! What calls give, one after the other.
 use crate::calls::play;
+use std::alloc::Global;
+use std::process::Abort;
 use std::test::Fail;
 
-#[test]
-fn a_choice_reads_what_its_first_answer_says(rt: HostRuntime) -> Result<(), Fail> {
-    assert_eq!(rt; play(rt.alloc(), CHOICE)?.as_str(), "");
-    Ok(())
-}
-
+// A choice reads what its first answer says.
 // 1.0 asks atom 0.0, and then 0.1 where that is 0, else 0.2.
 const CHOICE: &str = "
 set 0.0 0 | false
@@ -24,12 +21,7 @@ set 0.2 5 | true
 get 1.0 | 5 after 3
 ";
 
-#[test]
-fn a_diamond_runs_each_key_once(rt: HostRuntime) -> Result<(), Fail> {
-    assert_eq!(rt; play(rt.alloc(), DIAMOND)?.as_str(), "");
-    Ok(())
-}
-
+// A diamond runs each key once.
 // 2.0 is the sum of 1.1 and 1.2, which are atom 0.0.
 const DIAMOND: &str = "
 set 0.0 3 | true
@@ -42,12 +34,7 @@ set 0.0 4 | false
 get 2.0 | 8 after 0
 ";
 
-#[test]
-fn a_chain_through_two_hundred_ranks_runs_anew(rt: HostRuntime) -> Result<(), Fail> {
-    assert_eq!(rt; play(rt.alloc(), CHAIN)?.as_str(), "");
-    Ok(())
-}
-
+// A chain through two hundred ranks runs anew.
 // Each key of the chain is the one of the rank below, and the last is atom 0.0.
 const CHAIN: &str = "
 set 0.0 5 | true
@@ -59,12 +46,7 @@ get 100.1 | 6 after 200
 get 200.1 | 6 after 200
 ";
 
-#[test]
-fn ten_thousand_keys_hang_on_one_atom(rt: HostRuntime) -> Result<(), Fail> {
-    assert_eq!(rt; play(rt.alloc(), MANY)?.as_str(), "");
-    Ok(())
-}
-
+// Ten thousand keys hang on one atom.
 const MANY: &str = "
 set 0.0 1 | true
 get_each 10000 | 10000 after 20000
@@ -74,12 +56,7 @@ set 0.0 2 | true
 get_each 10000 | 20000 after 20000
 ";
 
-#[test]
-fn the_65th_watch_is_full(rt: HostRuntime) -> Result<(), Fail> {
-    assert_eq!(rt; play(rt.alloc(), FULL)?.as_str(), "");
-    Ok(())
-}
-
+// The 65th watch is full.
 const FULL: &str = "
 watch_often 0.0 64 | 63
 watch 0.0 | full
@@ -91,12 +68,7 @@ watch 1.0 | 9
 watch 1.0 | full
 ";
 
-#[test]
-fn due_tells_what_differs_from_what_was_told(rt: HostRuntime) -> Result<(), Fail> {
-    assert_eq!(rt; play(rt.alloc(), DUE)?.as_str(), "");
-    Ok(())
-}
-
+// Due tells what differs from what was told.
 const DUE: &str = "
 watch 1.0 | 0
 watch 2.0 | 1
@@ -116,12 +88,7 @@ watch 1.1 | 0
 due | 0:2 after 0
 ";
 
-#[test]
-fn a_changed_epoch_stays_where_a_run_comes_to_the_same(rt: HostRuntime) -> Result<(), Fail> {
-    assert_eq!(rt; play(rt.alloc(), CHANGED)?.as_str(), "");
-    Ok(())
-}
-
+// A changed epoch stays where a run comes to the same.
 const CHANGED: &str = "
 set 0.0 1 | true
 changed 1.0 | none
@@ -140,12 +107,7 @@ set 0.1 0 | false
 changed 0.1 | 0
 ";
 
-#[test]
-fn news_stay_due_until_they_are_told(rt: HostRuntime) -> Result<(), Fail> {
-    assert_eq!(rt; play(rt.alloc(), NEWS)?.as_str(), "");
-    Ok(())
-}
-
+// News stay due until they are told.
 const NEWS: &str = "
 watch 1.0 | 0
 news | 0:0 after 3
@@ -157,3 +119,21 @@ news | 0:7 after 3
 due | 0:7 after 0
 due | after 0
 ";
+
+// Asserts that each call of a table gives what it says.
+fn plays(rt: &impl Abort, alloc: Global, table: &str) -> Result<(), Fail> {
+    assert_eq!(rt; play(alloc, table)?.as_str(), "");
+    Ok(())
+}
+
+#[test]
+fn graphs_give_what_their_tables_say(rt: HostRuntime) -> Result<(), Fail> {
+    plays(&rt, rt.alloc(), CHOICE)?;
+    plays(&rt, rt.alloc(), DIAMOND)?;
+    plays(&rt, rt.alloc(), CHAIN)?;
+    plays(&rt, rt.alloc(), MANY)?;
+    plays(&rt, rt.alloc(), FULL)?;
+    plays(&rt, rt.alloc(), DUE)?;
+    plays(&rt, rt.alloc(), CHANGED)?;
+    plays(&rt, rt.alloc(), NEWS)
+}

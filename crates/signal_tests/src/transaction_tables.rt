@@ -1,13 +1,10 @@
 //! What calls of a graph with transactions give, one after the other.
 use crate::transactions::play_nested;
+use std::alloc::Global;
+use std::process::Abort;
 use std::test::Fail;
 
-#[test]
-fn two_sets_are_told_and_257_are_not(rt: HostRuntime) -> Result<(), Fail> {
-    assert_eq!(rt; play_nested(rt.alloc(), RING)?.as_str(), "");
-    Ok(())
-}
-
+// Two sets are told and 257 are not.
 // The first write falls out at the 257th, and then what was written after epoch 0 isn't known.
 const RING: &str = "
 set 0 5 | true
@@ -25,12 +22,7 @@ count_since 1 | 256
 epoch | 257
 ";
 
-#[test]
-fn the_18th_transaction_is_too_nested(rt: HostRuntime) -> Result<(), Fail> {
-    assert_eq!(rt; play_nested(rt.alloc(), DEEP)?.as_str(), "");
-    Ok(())
-}
-
+// The 18th transaction is too nested.
 const DEEP: &str = "
 commit | none is open
 abort | none is open
@@ -41,12 +33,7 @@ begin | open
 begin | too nested
 ";
 
-#[test]
-fn inner_aborts_take_their_own_writes_back(rt: HostRuntime) -> Result<(), Fail> {
-    assert_eq!(rt; play_nested(rt.alloc(), LEVELS)?.as_str(), "");
-    Ok(())
-}
-
+// Inner aborts take their own writes back.
 // The choice asks atom 0, and then atom 1 where that is 0, else atom 2.
 const LEVELS: &str = "
 set 1 1 | true
@@ -80,12 +67,7 @@ abort | done
 choice | 2 after 0
 ";
 
-#[test]
-fn a_transaction_tells_its_last_256_writes(rt: HostRuntime) -> Result<(), Fail> {
-    assert_eq!(rt; play_nested(rt.alloc(), LONG)?.as_str(), "");
-    Ok(())
-}
-
+// A transaction tells its last 256 writes.
 const LONG: &str = "
 set 1 9 | true
 begin | open
@@ -100,12 +82,7 @@ count_since 2 | 256
 since 257 | 1 0:257
 ";
 
-#[test]
-fn an_abort_changes_its_atoms_at_one_epoch(rt: HostRuntime) -> Result<(), Fail> {
-    assert_eq!(rt; play_nested(rt.alloc(), ABORTED)?.as_str(), "");
-    Ok(())
-}
-
+// An abort changes its atoms at one epoch.
 // Atom 3 has its value of before already when it is put back.
 const ABORTED: &str = "
 set 1 1 | true
@@ -129,3 +106,18 @@ epoch | 8
 changed 1 | 8
 changed 0 | none
 ";
+
+// Asserts that each call of a table gives what it says.
+fn plays(rt: &impl Abort, alloc: Global, table: &str) -> Result<(), Fail> {
+    assert_eq!(rt; play_nested(alloc, table)?.as_str(), "");
+    Ok(())
+}
+
+#[test]
+fn transactions_give_what_their_tables_say(rt: HostRuntime) -> Result<(), Fail> {
+    plays(&rt, rt.alloc(), RING)?;
+    plays(&rt, rt.alloc(), DEEP)?;
+    plays(&rt, rt.alloc(), LEVELS)?;
+    plays(&rt, rt.alloc(), LONG)?;
+    plays(&rt, rt.alloc(), ABORTED)
+}
