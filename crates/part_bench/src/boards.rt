@@ -1,18 +1,18 @@
 //! Boards whose views are told, whose shapes are put in one transaction, and which are queried.
-ghost use Rattle.std.specs.Prelude.{◌≡◌, ◌<◌, []};
+ghost use Rattle.std.specs.Prelude.{◌≡◌, []};
 ghost use Rattle.record_store.specs.Seen.{begun};
 
+use crate::made::{patch, record_of};
 use crate::touching::Calls;
 use doc_store::DocStore;
 use field_index::FieldIndex;
-use field_ops::{ObjectDiff, RecordOp, ValueOp, apply_record};
+use field_ops::apply_record;
 use live_views::{told, watch};
 use record_store::RecordStore;
-use rooms_val::{Fields, Mem, OutOfMemory, Steps, Text, Val};
+use rooms_val::{Mem, OutOfMemory, Steps, Text, Val};
 use shape_tree::{Query, View};
 use std::alloc::Global;
-use std::marker::Brand;
-use std::sync::ledger::{Blank, Ledger};
+use std::sync::ledger::Ledger;
 use store_query::refresh;
 
 /// The page on which everything stands.
@@ -21,62 +21,128 @@ const PAGE: &str = "page:p";
 /// The frame whose box is watched.
 const FIRST_FRAME: &str = "shape:frame0";
 
+/// A shape of 10 by 10 without id and parent.
+const SHAPE: &str =
+    r#"{"index":"a0","props":{"h":10,"w":10},"type":"geo","typeName":"shape","x":0,"y":0}"#;
+
 /// How many shapes hang under a frame.
 const OF_A_FRAME: u32 = 40;
 
 /// How many shapes have one x.
 const OF_AN_X: u32 = 10;
 
-/// Moves one of the shapes under these ids at each call, and has the watches of a count and of a frame's box tell what
-/// changed. It answers how much they told.
-pub(crate) fn viewed(alloc: Global, ids: &[Text], calls: Calls) -> Mem<i64> {
-    let mut store = board(alloc, ids)?;
-    watch_view(alloc, &mut store, &View::Count(Text::of(alloc, PAGE)?))?;
-    watch_view(alloc, &mut store, &View::Box(Text::of(alloc, FIRST_FRAME)?))?;
-    let mut sum = told_now(alloc, &mut store)?;
+/// What is done with a new store.
+#[derive(Clone, Copy)]
+pub(crate) enum Work {
+    /// A board is put, and watched while its shapes are moved.
+    View,
+    /// The shapes are put on one page, in one transaction.
+    Put,
+    /// A board is put, and queried with an index.
+    Seek,
+    /// The same without an index.
+    Walk,
+}
+
+/// Does the work with a new store and the shapes of these ids. It returns what the work comes to.
+pub(crate) fn worked<L: Ledger>(
+    work: Work,
+    alloc: Global,
+    ids: &[Text],
+    calls: Calls,
+    steps: &mut Steps<L>,
+) -> Mem<i64> {
+    let mut store = RecordStore::new(alloc)?;
+    match work {
+        Work::View => viewed(alloc, &mut store, ids, calls, steps),
+        Work::Put => put(alloc, &mut store, ids, steps),
+        Work::Seek => sought(alloc, &mut store, ids, calls, steps),
+        Work::Walk => walked(alloc, &mut store, ids, calls, steps),
+    }
+}
+
+/// Puts the shapes into a new store at each call. It returns how many records the stores have.
+pub(crate) fn put_times<L: Ledger>(
+    alloc: Global,
+    ids: &[Text],
+    calls: Calls,
+    steps: &mut Steps<L>,
+) -> Mem<i64> {
+    let mut sum = 0i64;
+    for _ in 0..calls.count {
+        sum = sum.saturating_add(worked(Work::Put, alloc, ids, calls, steps)?);
+    }
+    Ok(sum)
+}
+
+/// Moves one of the shapes of a board at each call, and has the watches of a count and of a frame's box tell what changed. It
+/// returns how much they told.
+fn viewed<L: Ledger>(
+    alloc: Global,
+    store: &mut RecordStore,
+    ids: &[Text],
+    calls: Calls,
+    steps: &mut Steps<L>,
+) -> Mem<i64> {
+    put_board(alloc, store, ids, steps)?;
+    watch_view(alloc, store, &View::Count(Text::of(alloc, PAGE)?))?;
+    watch_view(alloc, store, &View::Box(Text::of(alloc, FIRST_FRAME)?))?;
+    let mut sum = told_now(alloc, store, steps)?;
     for call in 0..calls.count {
         if let Some(id) = calls.id(ids, call) {
-            move_to(alloc, &mut store, id, i64::from(call))?;
-            sum = sum.saturating_add(told_now(alloc, &mut store)?);
+            move_to(alloc, store, id, i64::from(call), steps)?;
+            sum = sum.saturating_add(told_now(alloc, store, steps)?);
         }
     }
     Ok(sum)
 }
 
-/// Puts the shapes under these ids on one page of a new store at each call, in one transaction. It answers how many records
-/// the stores have.
-pub(crate) fn put(alloc: Global, ids: &[Text], times: u32) -> Mem<i64> {
-    let mut sum = 0i64;
-    for _ in 0..times {
-        let mut store = RecordStore::new(alloc)?;
-        begin(&mut store)?;
-        for id in ids {
-            put_shape(alloc, &mut store, id, PAGE, 0)?;
-        }
-        if store.depth() > 0 {
-            store.commit();
-        }
-        sum = sum.saturating_add(counted(&store.ids(alloc)?));
+/// Puts the shapes on one page, in one transaction. It returns how many records the store has.
+fn put<L: Ledger>(
+    alloc: Global,
+    store: &mut RecordStore,
+    ids: &[Text],
+    steps: &mut Steps<L>,
+) -> Mem<i64> {
+    begin(store)?;
+    for id in ids {
+        put_shape(alloc, store, id, PAGE, steps)?;
     }
-    Ok(sum)
+    if store.depth() > 0 {
+        store.commit();
+    }
+    Ok(counted(&store.ids(alloc)?))
 }
 
-/// Asks at each call for the shapes with one x, with an index. It answers how many there were.
-pub(crate) fn sought(alloc: Global, ids: &[Text], calls: Calls) -> Mem<i64> {
-    let store = board(alloc, ids)?;
+/// Asks a board at each call for the shapes with one x, with an index. It returns how many there were.
+fn sought<L: Ledger>(
+    alloc: Global,
+    store: &mut RecordStore,
+    ids: &[Text],
+    calls: Calls,
+    steps: &mut Steps<L>,
+) -> Mem<i64> {
+    put_board(alloc, store, ids, steps)?;
     let mut index = FieldIndex::new(alloc, Text::of(alloc, "shape")?, Text::of(alloc, "x")?);
     if store.depth() == 0 {
-        refresh(&mut index, alloc, &store)?;
+        refresh(&mut index, alloc, store)?;
     }
-    found(alloc, &store, ids, calls, Some(&index))
+    found(alloc, store, ids, calls, Some(&index))
 }
 
 /// The same without an index.
-pub(crate) fn walked(alloc: Global, ids: &[Text], calls: Calls) -> Mem<i64> {
-    found(alloc, &board(alloc, ids)?, ids, calls, None)
+fn walked<L: Ledger>(
+    alloc: Global,
+    store: &mut RecordStore,
+    ids: &[Text],
+    calls: Calls,
+    steps: &mut Steps<L>,
+) -> Mem<i64> {
+    put_board(alloc, store, ids, steps)?;
+    found(alloc, store, ids, calls, None)
 }
 
-/// How many shapes have one x, over all calls.
+/// How many shapes have the x of each call.
 fn found(
     alloc: Global,
     store: &RecordStore,
@@ -100,75 +166,64 @@ fn counted(ids: &[Text]) -> i64 {
     i64::try_from(ids.len()).unwrap_or(i64::MAX)
 }
 
-/// A store with frames on a page, and in each frame forty of the shapes under these ids, ten of each x.
-fn board(alloc: Global, ids: &[Text]) -> Mem<RecordStore> {
-    let mut store = RecordStore::new(alloc)?;
-    let mut frame = Text::of(alloc, FIRST_FRAME)?;
+/// Puts frames on a page, and in each frame forty of the shapes of these ids, ten at each x.
+fn put_board<L: Ledger>(
+    alloc: Global,
+    store: &mut RecordStore,
+    ids: &[Text],
+    steps: &mut Steps<L>,
+) -> Mem<()> {
     let mut number = 0u32;
     for id in ids {
+        let frame = format!(in alloc; "shape:frame{}", number / OF_A_FRAME)?;
+        let frame = Text::of(alloc, frame.as_str())?;
         if number % OF_A_FRAME == 0 {
-            let id = format!(in alloc; "shape:frame{}", number / OF_A_FRAME)?;
-            frame = Text::of(alloc, id.as_str())?;
-            put_shape(alloc, &mut store, &frame, PAGE, 0)?;
+            put_shape(alloc, store, &frame, PAGE, steps)?;
         }
-        let x = i64::from(number / OF_AN_X);
-        put_shape(alloc, &mut store, id, frame.as_str(), x)?;
+        put_shape(alloc, store, id, frame.as_str(), steps)?;
+        move_to(alloc, store, id, i64::from(number / OF_AN_X), steps)?;
         number = number.saturating_add(1);
     }
-    Ok(store)
-}
-
-/// Puts a shape of 10 by 10 under an id.
-fn put_shape(alloc: Global, store: &mut RecordStore, id: &Text, parent: &str, x: i64) -> Mem<()> {
-    let mut size = Fields::new(alloc);
-    drop(size.put(Text::of(alloc, "h")?, Val::Int(10))?);
-    drop(size.put(Text::of(alloc, "w")?, Val::Int(10))?);
-    let mut fields = Fields::new(alloc);
-    put_text(alloc, &mut fields, "id", id.as_str())?;
-    put_text(alloc, &mut fields, "index", "a0")?;
-    put_text(alloc, &mut fields, "parentId", parent)?;
-    drop(fields.put(Text::of(alloc, "props")?, Val::Map(size))?);
-    put_text(alloc, &mut fields, "type", "geo")?;
-    put_text(alloc, &mut fields, "typeName", "shape")?;
-    drop(fields.put(Text::of(alloc, "x")?, Val::Int(x))?);
-    drop(fields.put(Text::of(alloc, "y")?, Val::Int(0))?);
-    write(alloc, store, id, Some(Val::Map(fields)))
-}
-
-/// Puts a text under a key.
-fn put_text(alloc: Global, fields: &mut Fields, key: &str, text: &str) -> Mem<()> {
-    let val = Val::Text(Text::of(alloc, text)?);
-    drop(fields.put(Text::of(alloc, key)?, val)?);
     Ok(())
 }
 
-/// Moves the shape under an id by a patch.
-fn move_to(alloc: Global, store: &mut RecordStore, id: &Text, x: i64) -> Mem<()> {
-    let mut fields = ObjectDiff::new(alloc);
-    drop(fields.put(Text::of(alloc, "x")?, ValueOp::Put(Val::Int(x)))?);
-    let moved = apply_record(alloc, store.get(id.as_str()), &RecordOp::Patch(fields))?;
-    write(alloc, store, id, moved)
-}
-
-fn write_in<L: Ledger>(
-    blank: Blank,
+/// Puts a shape under an id and a parent.
+fn put_shape<L: Ledger>(
     alloc: Global,
     store: &mut RecordStore,
     id: &Text,
-    record_: Option<Val>,
-) -> Mem<()>
-    requires name { blank.name ≡ L.name }
-    requires parts { blank.parts ≡ L.parts }
-    requires some { 0 < blank.parts }
-{
-    let mut steps = Steps::<L>::new(blank);
-    drop(store.replace(alloc, id.as_str(), record_, &mut steps)?);
-    Ok(())
+    parent: &str,
+    steps: &mut Steps<L>,
+) -> Mem<()> {
+    let rows = [("id", id.as_str()), ("parentId", parent)];
+    write(alloc, store, id, record_of(alloc, SHAPE, &rows)?, steps)
 }
 
-/// Sets the record of an id. The steps are counted for nobody.
-fn write(alloc: Global, store: &mut RecordStore, id: &Text, record_: Option<Val>) -> Mem<()> {
-    write_in::<Brand>(Blank::new(1), alloc, store, id, record_)
+/// Moves the shape of an id by a patch.
+fn move_to<L: Ledger>(
+    alloc: Global,
+    store: &mut RecordStore,
+    id: &Text,
+    x: i64,
+    steps: &mut Steps<L>,
+) -> Mem<()> {
+    let op = patch(alloc, "x", Val::Int(x))?;
+    match apply_record(alloc, store.get(id.as_str()), &op)? {
+        Some(moved) => write(alloc, store, id, moved, steps),
+        None => Ok(()),
+    }
+}
+
+/// Sets the record of an id.
+fn write<L: Ledger>(
+    alloc: Global,
+    store: &mut RecordStore,
+    id: &Text,
+    written: Val,
+    steps: &mut Steps<L>,
+) -> Mem<()> {
+    drop(store.replace(alloc, id.as_str(), Some(written), steps)?);
+    Ok(())
 }
 
 /// Opens a transaction; that there are too many can't be.
@@ -187,21 +242,11 @@ fn watch_view(alloc: Global, store: &mut RecordStore, view: &View) -> Mem<()> {
     }
 }
 
-fn told_in<L: Ledger>(blank: Blank, alloc: Global, store: &mut RecordStore) -> Mem<i64>
-    requires name { blank.name ≡ L.name }
-    requires parts { blank.parts ≡ L.parts }
-    requires some { 0 < blank.parts }
-    requires closed { begun store.old ≡ [] }
-{
-    let mut steps = Steps::<L>::new(blank);
-    let told = told(alloc, store, &mut steps)?;
-    Ok(i64::try_from(told.len()).unwrap_or(i64::MAX))
-}
-
-/// How much the watches have to tell, where no transaction is open. The steps are counted for nobody.
-fn told_now(alloc: Global, store: &mut RecordStore) -> Mem<i64> {
+/// How much the watches have to tell, where no transaction is open.
+fn told_now<L: Ledger>(alloc: Global, store: &mut RecordStore, steps: &mut Steps<L>) -> Mem<i64> {
     if store.depth() > 0 {
         return Ok(0);
     }
-    told_in::<Brand>(Blank::new(1), alloc, store)
+    let told = told(alloc, store, steps)?;
+    Ok(i64::try_from(told.len()).unwrap_or(i64::MAX))
 }

@@ -3,8 +3,7 @@ use rooms_val::{Mem, OutOfMemory, Text};
 use std::alloc::Global;
 use wire_text::{Assembler, pieces};
 
-/// Cuts a text of so many bytes into pieces and puts them together so many times, and answers how many
-/// bytes came together.
+/// Cuts a text of so many bytes into pieces and puts them together so many times. It returns how many bytes came together.
 pub(crate) fn cut(alloc: Global, bytes: u32, times: u32) -> Mem<i64> {
     let text = long_text(alloc, bytes)?;
     let mut together = 0i64;
@@ -15,7 +14,7 @@ pub(crate) fn cut(alloc: Global, bytes: u32, times: u32) -> Mem<i64> {
     Ok(together)
 }
 
-// A text of so many bytes, in characters of two bytes, that begins as a whole text does.
+/// A text of so many bytes, in characters of two bytes, that begins as a whole text does.
 fn long_text(alloc: Global, bytes: u32) -> Mem<String> {
     let mut text = String::from_str(alloc, "{")?;
     for _ in 0..bytes / 2 {
@@ -24,7 +23,7 @@ fn long_text(alloc: Global, bytes: u32) -> Mem<String> {
     Ok(text)
 }
 
-// How many bytes the pieces are together. Any fault counts as that of memory: the pieces are a text's.
+/// How many bytes the pieces are together. Any fault counts as that of memory: the pieces are a text's.
 fn put_together(alloc: Global, limit: usize, pieces: &[Text]) -> Mem<i64> {
     let mut assembler = Assembler::new(limit);
     let mut bytes = 0i64;

@@ -1,154 +1,204 @@
-//! The program `part_bench`: one call of a crate below the program done many times, so that a script
-//! can time it. Its words are `part_bench WORD SIZE CALLS STEP`:
+//! The program `part_bench`: one call of a crate below the program done many times, so that a script can time it. Its words are
+//! `part_bench WORD SIZE CALLS STEP`:
 //!
-//! - `touch` touches SIZE ids in a `ChangeList`, and then one of them at each call, STEP further than
-//!   that of the call before. It comes to the last clock.
-//! - `copy` makes the texts of the same calls, and touches nothing by them. It comes to how many bytes
-//!   were copied.
+//! - `read_value` reads a value of about SIZE bytes at each call, `weigh_value` weighs it, `copy_value` copies it and
+//!   `print_value` prints it. They come to what the value weighs.
+//! - `touch` touches SIZE ids in a `ChangeList`, and then one of them at each call, STEP further than that of the call before. It
+//!   comes to the last clock.
+//! - `copy` makes the texts of the same calls, and touches nothing by them. It comes to how many bytes were copied.
 //! - `push` pushes a patch of one of SIZE pages into a room at each call. It comes to the room's clock.
-//! - `take` lets a client of SIZE shapes take a data message at each call, which patches one of them, and
-//!   `make` makes the same client and messages and takes none. They come to how many edits are pending.
-//! - `read_data` reads at each call a data message with SIZE patches, and `print_data` prints it. They
-//!   come to how many events were read, or how many bytes were printed.
+//! - `take` lets a client of SIZE shapes take a data message at each call, which patches one of them, and `make` makes the same
+//!   client and messages and takes none. They come to the clock that the client reached.
+//! - `read_data` reads at each call a data message with SIZE patches, and `print_data` prints it. They come to how many events
+//!   were read, or how many bytes were printed.
 //! - `marks` keeps at each call the inverse of an edit of one of SIZE shapes, without a mark. It comes to how many shapes an undo
 //!   of all of them changes.
-//! - `cut` cuts a text of SIZE bytes into pieces at each call, and puts them together again. It comes to
-//!   how many bytes came together.
-//! - `compute` sets one of SIZE atoms of a `Graph` at each call, STEP further than that of the call before,
-//!   and asks for ten keys that hang on it. It comes to the sum of their values.
+//! - `cut` cuts a text of SIZE bytes into pieces at each call, and puts them together again. It comes to how many bytes came
+//!   together.
+//! - `compute` sets one of SIZE atoms of a `Graph` at each call, STEP further than that of the call before, and asks for ten keys
+//!   that hang on it. It comes to the sum of their values.
+//! - `write` writes an atom of SIZE ids at each call, all in one transaction. It comes to how often the atom changed. `hold` only
+//!   makes and holds such a list at each call. It comes to how many are held.
 //! - `views` moves one of SIZE shapes at each call, which stand in frames of 40 on a page, and has the watches of the page's
 //!   count and of the first frame's box tell what changed. It comes to how much they told.
 //! - `put` puts SIZE shapes on one page at each call, in one transaction of a new store. It comes to how many records there are.
 //! - `seek` asks at each call for those of SIZE shapes that have one x, with an index, and `walk` without. They come to how many
 //!   there were.
+//! - `all` is each of these, one after another.
 //!
-//! The program prints its words, and what they come to.
+//! For each call that was asked for the program prints its words, and what the call comes to.
+//!
+//! A call's value, as a store or a room, is made in one function and passed on by reference, so that its end is proved once.
 #![tactic(auto)]
+
+ghost use Rattle.std.specs.Prelude.{◌≡◌, ◌<◌};
 
 mod boards;
 mod clients;
 mod cutting;
+mod made;
 mod marks;
 mod messages;
 mod rooms;
 mod signals;
 mod touching;
+mod transactions;
+mod values;
 
-use clients::taken;
-use cutting::cut;
-use rooms::pushed;
-use rooms_val::{Mem, Text};
-use signals::computed;
+use boards::Work;
+use clients::Messages;
+use made::ids_of;
+use rooms_val::{Mem, Steps, Text};
 use std::alloc::Global;
+use std::marker::Brand;
 use std::process::ExitCode;
+use std::sync::ledger::{Blank, Ledger};
 use std::{env, io};
-use touching::{Calls, copied, touched};
+use touching::Calls;
+use values::OnValue;
 
 const USAGE: &str =
-    "usage: part_bench touch|copy|push|take|make|read_data|print_data|marks|cut|compute|views|put|seek|walk SIZE CALLS STEP";
+    "usage: part_bench WORD SIZE CALLS STEP, where WORD is all or one of read_value weigh_value copy_value print_value touch copy push take make read_data print_data marks cut compute write hold views put seek walk";
 
 /// Which call is done many times.
 #[derive(Clone, Copy)]
 enum Call {
+    OnValue(OnValue),
+    OnShapes(OnShapes),
+    Push,
+    Cut,
+    Compute,
+    Write,
+    Hold,
+}
+
+/// A call that is given the ids of shapes.
+#[derive(Clone, Copy)]
+enum OnShapes {
     Touch,
     Copy,
-    Push,
-    Take,
-    Make,
+    Client(Messages),
     ReadData,
     PrintData,
     Marks,
-    Cut,
-    Compute,
-    Views,
-    Put,
-    Seek,
-    Walk,
+    Store(Work),
 }
+
+/// Each call, by its word.
+const CALLS: [(&str, Call); 20] = [
+    ("read_value", Call::OnValue(OnValue::Read)),
+    ("weigh_value", Call::OnValue(OnValue::Weigh)),
+    ("copy_value", Call::OnValue(OnValue::Copy)),
+    ("print_value", Call::OnValue(OnValue::Print)),
+    ("touch", Call::OnShapes(OnShapes::Touch)),
+    ("copy", Call::OnShapes(OnShapes::Copy)),
+    ("push", Call::Push),
+    ("take", Call::OnShapes(OnShapes::Client(Messages::Taken))),
+    ("make", Call::OnShapes(OnShapes::Client(Messages::Made))),
+    ("read_data", Call::OnShapes(OnShapes::ReadData)),
+    ("print_data", Call::OnShapes(OnShapes::PrintData)),
+    ("marks", Call::OnShapes(OnShapes::Marks)),
+    ("cut", Call::Cut),
+    ("compute", Call::Compute),
+    ("write", Call::Write),
+    ("hold", Call::Hold),
+    ("views", Call::OnShapes(OnShapes::Store(Work::View))),
+    ("put", Call::OnShapes(OnShapes::Store(Work::Put))),
+    ("seek", Call::OnShapes(OnShapes::Store(Work::Seek))),
+    ("walk", Call::OnShapes(OnShapes::Store(Work::Walk))),
+];
 
 impl Call {
-    /// The call of a word.
-    fn named(word: &str) -> Option<Call> {
-        match word {
-            "touch" => Some(Call::Touch),
-            "copy" => Some(Call::Copy),
-            "push" => Some(Call::Push),
-            "take" => Some(Call::Take),
-            "make" => Some(Call::Make),
-            "read_data" => Some(Call::ReadData),
-            "print_data" => Some(Call::PrintData),
-            "marks" => Some(Call::Marks),
-            "cut" => Some(Call::Cut),
-            "compute" => Some(Call::Compute),
-            "views" => Some(Call::Views),
-            "put" => Some(Call::Put),
-            "seek" => Some(Call::Seek),
-            "walk" => Some(Call::Walk),
-            _ => None,
-        }
-    }
-
-    /// The word of the call.
-    fn word(self) -> &'static str {
-        match self {
-            Call::Touch => "touch",
-            Call::Copy => "copy",
-            Call::Push => "push",
-            Call::Take => "take",
-            Call::Make => "make",
-            Call::ReadData => "read_data",
-            Call::PrintData => "print_data",
-            Call::Marks => "marks",
-            Call::Cut => "cut",
-            Call::Compute => "compute",
-            Call::Views => "views",
-            Call::Put => "put",
-            Call::Seek => "seek",
-            Call::Walk => "walk",
-        }
-    }
-
-    /// Does the call on so many ids, or bytes, and answers what it comes to.
+    /// Does the call on so many ids, or bytes, and returns what it comes to. The steps are counted for nobody.
     fn repeated(self, alloc: Global, size: u32, calls: Calls) -> Mem<i64> {
+        self.repeated_in::<Brand>(Blank::new(1), alloc, size, calls)
+    }
+
+    fn repeated_in<L: Ledger>(
+        self,
+        blank: Blank,
+        alloc: Global,
+        size: u32,
+        calls: Calls,
+    ) -> Mem<i64>
+        requires name { blank.name ≡ L.name }
+        requires parts { blank.parts ≡ L.parts }
+        requires some { 0 < blank.parts }
+    {
+        let mut steps = Steps::<L>::new(blank);
         match self {
-            Call::Touch => touched(alloc, &made(alloc, size)?, calls),
-            Call::Copy => copied(alloc, &made(alloc, size)?, calls),
-            Call::Push => pushed(alloc, &made(alloc, size)?, calls),
-            Call::Take => taken(alloc, &made(alloc, size)?, calls),
-            Call::Make => clients::made(alloc, &made(alloc, size)?, calls),
-            Call::ReadData => messages::read(alloc, &made(alloc, size)?, calls.count),
-            Call::PrintData => messages::printed(alloc, &made(alloc, size)?, calls.count),
-            Call::Marks => marks::kept(alloc, &made(alloc, size)?, calls),
-            Call::Cut => cut(alloc, size, calls.count),
-            Call::Compute => computed(alloc, size, calls),
-            Call::Views => boards::viewed(alloc, &made(alloc, size)?, calls),
-            Call::Put => boards::put(alloc, &made(alloc, size)?, calls.count),
-            Call::Seek => boards::sought(alloc, &made(alloc, size)?, calls),
-            Call::Walk => boards::walked(alloc, &made(alloc, size)?, calls),
+            Call::OnValue(call) => values::repeated(call, alloc, size, calls.count),
+            Call::OnShapes(call) => {
+                call.repeated(alloc, &ids_of(alloc, "shape", size)?, calls, &mut steps)
+            }
+            Call::Push => rooms::pushed(alloc, size, calls, &mut steps),
+            Call::Cut => cutting::cut(alloc, size, calls.count),
+            Call::Compute => signals::computed(alloc, size, calls, &mut steps),
+            Call::Write => transactions::written(alloc, size, calls.count),
+            Call::Hold => transactions::held(alloc, size, calls.count),
         }
     }
 }
 
-/// So many ids, as records have them.
-fn made(alloc: Global, count: u32) -> Mem<Vec<Text>> {
-    let mut ids = Vec::new(alloc);
-    for number in 0..count {
-        let id = format!(in alloc; "shape:{number:06}")?;
-        ids.push(Text::of(alloc, id.as_str())?)?;
+impl OnShapes {
+    /// Does the call on the shapes of these ids.
+    fn repeated<L: Ledger>(
+        self,
+        alloc: Global,
+        ids: &[Text],
+        calls: Calls,
+        steps: &mut Steps<L>,
+    ) -> Mem<i64> {
+        match self {
+            OnShapes::Touch => touching::touched(alloc, ids, calls),
+            OnShapes::Copy => touching::copied(alloc, ids, calls),
+            OnShapes::Client(messages) => clients::called(messages, alloc, ids, calls, steps),
+            OnShapes::ReadData => messages::read(alloc, ids, calls.count),
+            OnShapes::PrintData => messages::printed(alloc, ids, calls.count),
+            OnShapes::Marks => marks::kept(alloc, ids, calls),
+            OnShapes::Store(Work::Put) => boards::put_times(alloc, ids, calls, steps),
+            OnShapes::Store(work) => boards::worked(work, alloc, ids, calls, steps),
+        }
     }
-    Ok(ids)
 }
 
-/// What the words ask for, where they are four of these.
-fn asked(words: &[String]) -> Option<(Call, u32, Calls)> {
-    let [word, ids, count, step] = words else {
+/// What the words ask for, where they are a word and three numbers.
+fn asked(words: &[String]) -> Option<(&str, u32, Calls)> {
+    let [word, size, count, step] = words else {
         return None;
     };
-    let call = Call::named(word.as_str())?;
-    let ids = ids.parse::<u32>().ok()?;
+    let size = size.parse::<u32>().ok()?;
     let count = count.parse::<u32>().ok()?;
     let step = step.parse::<u32>().ok()?;
-    Some((call, ids, Calls { count, step }))
+    Some((word.as_str(), size, Calls { count, step }))
+}
+
+/// Does the call that the words ask for, or each. It returns a line for each that was done.
+fn done(alloc: Global, words: &[String]) -> Mem<String> {
+    let mut lines = String::new(alloc);
+    if let Some((asked, size, calls)) = asked(words) {
+        for (word, call) in &CALLS {
+            if asked == *word || asked == "all" {
+                add_line(alloc, &mut lines, (word, *call), size, calls)?;
+            }
+        }
+    }
+    Ok(lines)
+}
+
+/// Does a call, and adds the line that tells what it comes to.
+fn add_line(
+    alloc: Global,
+    lines: &mut String,
+    (word, call): (&str, Call),
+    size: u32,
+    calls: Calls,
+) -> Mem<()> {
+    let comes_to = call.repeated(alloc, size, calls)?;
+    let Calls { count, step } = calls;
+    let line = format!(in alloc; "{word} {size} {count} {step} {comes_to}\n")?;
+    lines.push_str(line.as_str())?;
+    Ok(())
 }
 
 fn main(rt: HostRuntime) -> io::Result<ExitCode> {
@@ -157,23 +207,14 @@ fn main(rt: HostRuntime) -> io::Result<ExitCode> {
     for word in env::args(&rt)?.skip(1) {
         words.push(word)?;
     }
-    let Some((call, ids, calls)) = asked(&words) else {
+    let Ok(lines) = done(alloc, &words) else {
+        eprintln!(rt; "part_bench: out of memory")?;
+        return Ok(ExitCode::FAILURE);
+    };
+    if lines.is_empty() {
         eprintln!(rt; "{USAGE}")?;
         return Ok(ExitCode::from(2));
-    };
-    match call.repeated(alloc, ids, calls) {
-        Ok(comes_to) => {
-            println!(rt;
-                "{} {ids} {} {} {comes_to}",
-                call.word(),
-                calls.count,
-                calls.step
-            )?;
-            Ok(ExitCode::SUCCESS)
-        }
-        Err(_) => {
-            eprintln!(rt; "part_bench: out of memory")?;
-            Ok(ExitCode::FAILURE)
-        }
     }
+    print!(rt; "{lines}")?;
+    Ok(ExitCode::SUCCESS)
 }

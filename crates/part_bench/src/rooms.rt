@@ -1,14 +1,13 @@
 //! Pushes of patches into a room of many records.
-ghost use Rattle.std.specs.Prelude.{◌≡◌, ◌<◌};
 ghost use Rattle.sync_room.specs.Sessions.{IsIn};
 
+use crate::made::{diff_of, ids_of, patch, record_of};
 use crate::touching::Calls;
-use field_ops::{Diff, ObjectDiff, RecordOp, ValueOp};
+use field_ops::{Diff, RecordOp};
 use migrate_seq::Serialized;
-use rooms_val::{Fields, Mem, OutOfMemory, Steps, Text, Val};
+use rooms_val::{Mem, OutOfMemory, Steps, Text, Val};
 use std::alloc::Global;
-use std::marker::Brand;
-use std::sync::ledger::{Blank, Ledger};
+use std::sync::ledger::Ledger;
 use sync_msgs::ClientMessage;
 use sync_room::{Room, SessionId};
 use table_schemas::tables_have_presences;
@@ -17,27 +16,25 @@ use tl_tables::{TableFault, schema_at};
 /// The clock from which on the room refuses pushes.
 const LAST: i64 = 1_000_000_000;
 
-/// Puts as many pages into a room as there are ids, in one push, and then pushes a patch of one of them at each call. After
-/// each push the session is given what is next for it. It answers the room's clock.
-pub(crate) fn pushed(alloc: Global, ids: &[Text], calls: Calls) -> Mem<i64> {
-    let Ok(mut room) = new_room(alloc) else {
-        return Err(OutOfMemory);
-    };
-    if room.enter(alloc, false).is_err() {
-        return Err(OutOfMemory);
+/// A page without id.
+const PAGE: &str = r#"{"index":"a0","meta":{},"name":"","typeName":"page"}"#;
+
+/// The versions of the sequences that the session's client has.
+const VERSIONS: [(&str, u64); 3] = [("rooms.base", 1), ("rooms.binding", 1), ("rooms.shape", 2)];
+
+/// Puts so many pages into a room in one push, and then pushes a patch of one of them at each call. After each push the session
+/// is given what is next for it. It returns the room's clock.
+pub(crate) fn pushed<L: Ledger>(
+    alloc: Global,
+    pages: u32,
+    calls: Calls,
+    steps: &mut Steps<L>,
+) -> Mem<i64> {
+    let pages = ids_of(alloc, "page", pages)?;
+    match new_room(alloc) {
+        Ok(mut room) => push_all(alloc, &mut room, &pages, calls, steps),
+        Err(_) => Err(OutOfMemory),
     }
-    let pages = page_ids(alloc, ids.len())?;
-    let connect = connect_message(alloc)?;
-    exchange(alloc, &mut room, &connect)?;
-    let puts = push_message(0, puts(alloc, &pages)?);
-    exchange(alloc, &mut room, &puts)?;
-    for call in 0..calls.count {
-        if let Some(id) = calls.id(&pages, call) {
-            let patch = push_message(i64::from(call), patch(alloc, id)?);
-            exchange(alloc, &mut room, &patch)?;
-        }
-    }
-    Ok(room.clock())
 }
 
 /// A room of the newest version.
@@ -47,22 +44,31 @@ fn new_room(alloc: Global) -> Result<Room, TableFault> {
     Ok(Room::new(alloc, schema, LAST)?)
 }
 
-/// The ids of so many pages.
-fn page_ids(alloc: Global, count: usize) -> Mem<Vec<Text>> {
-    let mut ids = Vec::new(alloc);
-    for number in 0..count {
-        let id = format!(in alloc; "page:{number:06}")?;
-        ids.push(Text::of(alloc, id.as_str())?)?;
+/// Lets a session come, put the pages and push the patch of each call.
+fn push_all<L: Ledger>(
+    alloc: Global,
+    room: &mut Room,
+    pages: &[Text],
+    calls: Calls,
+    steps: &mut Steps<L>,
+) -> Mem<i64> {
+    if room.enter(alloc, false).is_err() {
+        return Err(OutOfMemory);
     }
-    Ok(ids)
+    exchange(alloc, room, &connect_message(alloc)?, steps)?;
+    push(alloc, room, 0, puts(alloc, pages)?, steps)?;
+    for call in 0..calls.count {
+        if let Some(id) = calls.id(pages, call) {
+            let diff = renamed(alloc, id)?;
+            push(alloc, room, i64::from(call), diff, steps)?;
+        }
+    }
+    Ok(room.clock())
 }
 
 /// The message by which the session asks to be connected.
 fn connect_message(alloc: Global) -> Mem<ClientMessage> {
-    let mut schema = Serialized::new(alloc);
-    schema.put(Text::of(alloc, "rooms.base")?, 1)?;
-    schema.put(Text::of(alloc, "rooms.binding")?, 1)?;
-    schema.put(Text::of(alloc, "rooms.shape")?, 2)?;
+    let schema = versions(alloc)?;
     Ok(ClientMessage::Connect {
         connect_request_id: Text::of(alloc, "0")?,
         last_server_clock: -1,
@@ -71,75 +77,77 @@ fn connect_message(alloc: Global) -> Mem<ClientMessage> {
     })
 }
 
-/// The push of a diff.
-fn push_message(client_clock: i64, diff: Diff) -> ClientMessage {
-    ClientMessage::Push {
-        client_clock,
-        diff: Some(diff),
-        presence: None,
+/// The versions that the client has.
+fn versions(alloc: Global) -> Mem<Serialized> {
+    let mut schema = Serialized::new(alloc);
+    for (name, version) in VERSIONS {
+        schema.put(Text::of(alloc, name)?, version)?;
     }
+    Ok(schema)
 }
 
 /// A diff that puts a page for each id.
 fn puts(alloc: Global, ids: &[Text]) -> Mem<Diff> {
     let mut diff = Diff::new(alloc);
-    for id in ids {
-        let page = page(alloc, id)?;
-        drop(diff.put(id.copy(alloc)?, RecordOp::Put(page))?);
-    }
+    put_pages(alloc, &mut diff, ids)?;
     Ok(diff)
 }
 
-/// A page.
-fn page(alloc: Global, id: &Text) -> Mem<Val> {
-    let mut fields = Fields::new(alloc);
-    put_text(alloc, &mut fields, "id", id.as_str())?;
-    put_text(alloc, &mut fields, "index", "a0")?;
-    drop(fields.put(Text::of(alloc, "meta")?, Val::Map(Fields::new(alloc)))?);
-    put_text(alloc, &mut fields, "name", "")?;
-    put_text(alloc, &mut fields, "typeName", "page")?;
-    Ok(Val::Map(fields))
-}
-
-/// Puts a text under a key.
-fn put_text(alloc: Global, fields: &mut Fields, key: &str, text: &str) -> Mem<()> {
-    let val = Val::Text(Text::of(alloc, text)?);
-    drop(fields.put(Text::of(alloc, key)?, val)?);
+/// Adds a page for each id.
+fn put_pages(alloc: Global, diff: &mut Diff, ids: &[Text]) -> Mem<()> {
+    for id in ids {
+        let page = record_of(alloc, PAGE, &[("id", id.as_str())])?;
+        drop(diff.put(id.copy(alloc)?, RecordOp::Put(page))?);
+    }
     Ok(())
 }
 
-/// A diff that gives a page another name.
-fn patch(alloc: Global, id: &Text) -> Mem<Diff> {
+/// A diff that gives the page of an id another name.
+fn renamed(alloc: Global, id: &Text) -> Mem<Diff> {
     let name = Val::Text(Text::of(alloc, "name")?);
-    let mut fields = ObjectDiff::new(alloc);
-    drop(fields.put(Text::of(alloc, "name")?, ValueOp::Put(name))?);
-    let mut diff = Diff::new(alloc);
-    drop(diff.put(id.copy(alloc)?, RecordOp::Patch(fields))?);
-    Ok(diff)
+    diff_of(alloc, id, patch(alloc, "name", name)?)
 }
 
-/// The room handles a message of its session, and gives it what is next. The steps are counted for nobody.
-fn exchange(alloc: Global, room: &mut Room, message: &ClientMessage) -> Mem<()> {
-    let Some(session) = room.find(0) else {
-        return Ok(());
+/// The session pushes a diff, and is given what is next.
+fn push<L: Ledger>(
+    alloc: Global,
+    room: &mut Room,
+    client_clock: i64,
+    diff: Diff,
+    steps: &mut Steps<L>,
+) -> Mem<()> {
+    let message = ClientMessage::Push {
+        client_clock,
+        diff: Some(diff),
+        presence: None,
     };
-    exchange_in::<Brand>(Blank::new(1), alloc, room, session, message)
+    exchange(alloc, room, &message, steps)
 }
 
-fn exchange_in<L: Ledger>(
-    blank: Blank,
+/// The room handles a message of its session, and gives it what is next.
+fn exchange<L: Ledger>(
+    alloc: Global,
+    room: &mut Room,
+    message: &ClientMessage,
+    steps: &mut Steps<L>,
+) -> Mem<()> {
+    match room.find(0) {
+        Some(session) => exchange_with(alloc, room, session, message, steps),
+        None => Ok(()),
+    }
+}
+
+/// The same with the session of a number.
+fn exchange_with<L: Ledger>(
     alloc: Global,
     room: &mut Room,
     session: SessionId,
     message: &ClientMessage,
+    steps: &mut Steps<L>,
 ) -> Mem<()>
-    requires name { blank.name ≡ L.name }
-    requires parts { blank.parts ≡ L.parts }
-    requires some { 0 < blank.parts }
     requires there { IsIn session room.old.sessions }
 {
-    let mut steps = Steps::<L>::new(blank);
-    room.handle::<OutOfMemory, L>(alloc, session, message, &mut steps)?;
-    drop(room.drain::<OutOfMemory, L>(alloc, session, &mut steps)?);
+    room.handle(alloc, session, message, steps)?;
+    drop(room.drain(alloc, session, steps)?);
     Ok(())
 }

@@ -58,9 +58,14 @@ impl Calls {
     }
 }
 
-/// Touches each id once, and then one of them at each call. It answers the last clock.
+/// Touches each id once, and then one of them at each call. It returns the last clock.
 pub(crate) fn touched(alloc: Global, ids: &[Text], calls: Calls) -> Mem<i64> {
     let mut clocked = Clocked::new(alloc, ids.len())?;
+    touch_all(alloc, &mut clocked, ids, calls)
+}
+
+/// The same in a list with memory for the ids.
+fn touch_all(alloc: Global, clocked: &mut Clocked, ids: &[Text], calls: Calls) -> Mem<i64> {
     for id in ids {
         clocked.touch(id.copy(alloc)?)?;
     }
@@ -72,7 +77,7 @@ pub(crate) fn touched(alloc: Global, ids: &[Text], calls: Calls) -> Mem<i64> {
     Ok(clocked.clock)
 }
 
-/// Makes the texts of the same calls, and answers how many bytes they have.
+/// Makes the texts of the same calls, and returns how many bytes they have.
 pub(crate) fn copied(alloc: Global, ids: &[Text], calls: Calls) -> Mem<i64> {
     let mut bytes = 0i64;
     for call in 0..calls.count {

@@ -1,4 +1,4 @@
-use Rattle.part_bench.proofs.rooms.exchange_in.Goals as goal
+use Rattle.part_bench.proofs.rooms.exchange_with.Goals as goal
 
 -- who was in the room still is
 pub drain-requires : goal.drain-requires
