@@ -8,7 +8,7 @@ use board_tables::{board_diff, board_value, expanded};
 use case_tables::{cells, printed, rows};
 use field_ops::{Diff, RecordOp, read_op};
 use migrate_seq::Serialized;
-use rooms_val::{OutOfMemory, Steps, Text};
+use rooms_val::{Steps, Text};
 use std::alloc::Global;
 use std::marker::Brand;
 use std::sync::ledger::{Blank, Ledger};
@@ -173,7 +173,7 @@ fn handled_in<L: Ledger>(
     requires there { IsIn id room.old.sessions }
 {
     let mut steps = Steps::<L>::new(blank);
-    let reply = room.handle::<OutOfMemory, L>(alloc, id, message, &mut steps)?;
+    let reply = room.handle(alloc, id, message, &mut steps)?;
     handled_text(alloc, reply)
 }
 
@@ -205,7 +205,7 @@ fn drained_in<L: Ledger>(
     requires there { IsIn id room.old.sessions }
 {
     let mut steps = Steps::<L>::new(blank);
-    Ok(room.drain::<OutOfMemory, L>(alloc, id, &mut steps)?)
+    Ok(room.drain(alloc, id, &mut steps)?)
 }
 
 // A session asks to be connected.
