@@ -11,7 +11,6 @@ use anyhow::{Result, anyhow};
 use field_ops::{Diff, read_diff};
 use room_model::limits::LAST_CLOCK;
 use rooms_val::{Steps, Val};
-use side_effects::EditFault;
 use std::alloc::Global;
 use std::io;
 use std::io::Write;
@@ -93,7 +92,7 @@ fn join<L: Ledger>(
     let request = peer
         .connect(alloc, session.number())
         .map_err(|fault| anyhow!("{fault:?}"))?;
-    room.handle::<EditFault, L>(alloc, session, &request, steps)?;
+    room.handle(alloc, session, &request, steps)?;
     hear(alloc, room, session, peer, steps)?;
     Ok(session)
 }
@@ -128,7 +127,7 @@ fn tell<L: Ledger>(
     let Some(message) = message else {
         return Ok(());
     };
-    room.handle::<EditFault, L>(alloc, session, message, steps)?;
+    room.handle(alloc, session, message, steps)?;
     Ok(())
 }
 
@@ -143,7 +142,7 @@ fn hear<L: Ledger>(
     requires { IsIn session room.old.sessions }
     ensures { (other : SessionId) → IsIn other room.old.sessions → IsIn other room.new.sessions }
 {
-    match room.drain::<EditFault, L>(alloc, session, steps)? {
+    match room.drain(alloc, session, steps)? {
         Some(Out::Message(message)) => peer.take(alloc, &message, steps)?,
         Some(Out::End(reason)) => peer.ended(alloc, reason),
         None => {}
