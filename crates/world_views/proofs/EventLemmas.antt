@@ -3,7 +3,7 @@ use Rattle.std.proofs.Common.{◌≡◌, ◌≢◌, ℕ, suc, nat_le, Bool, true
 use Rattle.rooms_val.specs.Data.{Pairs}
 use Rattle.record_store.specs.Seen.{Seen, records}
 use Rattle.live_views.specs.Watches.{Watched, told_now, news}
-use Rattle.room_model.specs.Schemas.{Schemas}
+use Rattle.room_model.specs.Schemas.{WorldSchemas}
 use Rattle.room_model.specs.Replicas.{Client, new_client}
 use Rattle.room_model.specs.Worlds as model
 use Rattle.room_model.specs.Worlds.{after_event, new_world}
@@ -30,7 +30,7 @@ stores_long : (kept : List WorldClient) → length (stores_kept kept) ≡ length
 stores_long [] = refl
 stores_long (k ∷ kept) = ap suc (stores_long kept)
 
-module _ (schemas : Schemas EditFault) where
+module _ (schemas : WorldSchemas EditFault) where
   -- there are as many stores as clients
   pub many_stores : (world : model.World) (code : World) → world_of.Stands schemas world code → length (stores_of code) ≡ length world.clients
   many_stores world code stands = stores_long code.live.clients.items ∙ stands.keeps.fits.clients.long

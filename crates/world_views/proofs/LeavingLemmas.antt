@@ -1,7 +1,7 @@
 -- What an event of a recording leaves: no client has a view to tell, and the world can be reached if the one before could.
 use Rattle.std.proofs.Common.{◌≡◌, ℕ, nat_le, Bool, true, false, cond, List, [], ◌∷◌, length, Option, Some, None, slice_get, Ok, Err, refl, subst}
 use Rattle.std.specs.Option.{option_map_or}
-use Rattle.room_model.specs.Schemas.{Schemas}
+use Rattle.room_model.specs.Schemas.{WorldSchemas}
 use Rattle.room_model.specs.Replicas.{Client}
 use Rattle.room_model.specs.Worlds as model
 use Rattle.room_model.specs.Worlds.{after_event, shown_in}
@@ -20,7 +20,7 @@ use Rattle.world_laws.specs.Reachable.{ReachableWorld, stepped}
 use Rattle.world_views.specs.Views.{Viewed, Stepped, Outcome, told_lines, with_joined, shown_by, tells, with_made, with_watch, on_watch, on_query, after_recorded}
 use Rattle.world_views.proofs.QuietLemmas.{silent_after}
 
-module _ {F : Type 0} (schemas : Schemas F) where
+module _ {F : Type 0} (schemas : WorldSchemas F) where
   -- no client has a view to tell
   abbrev pub HasToldAll : Viewed → Type 0
   HasToldAll viewed = told_lines 0 (shown_by schemas viewed.world) viewed.watched ≡ []

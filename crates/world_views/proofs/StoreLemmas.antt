@@ -2,7 +2,7 @@
 use Rattle.std.proofs.Common.{◌≡◌, ℕ, suc, List, [], ◌∷◌, length, Some, map, refl, sym, ap, subst, ◌∙◌, slice_get, arith}
 use Rattle.rooms_val.specs.Data.{Pairs}
 use Rattle.record_store.specs.Seen.{Seen, records}
-use Rattle.room_model.specs.Schemas.{Schemas}
+use Rattle.room_model.specs.Schemas.{WorldSchemas}
 use Rattle.room_model.specs.Replicas.{Client}
 use Rattle.room_model.specs.Worlds as model
 use Rattle.room_model.specs.Worlds.{shown_in}
@@ -20,7 +20,7 @@ use Rattle.world_views.specs.Views.{shown_by}
 use Rattle.world_views.proofs.TellingLemmas.{maps_of}
 
 -- a peer's store has what its client shows
-pub store_shows : (schemas : Schemas EditFault) (world : model.World) (code : World) → world_of.Stands schemas world code
+pub store_shows : (schemas : WorldSchemas EditFault) (world : model.World) (code : World) → world_of.Stands schemas world code
     → (n : ℕ) (client : Client) (kept : WorldClient) → slice_get world.clients n ≡ Some client → slice_get code.live.clients.items n ≡ Some kept
     → shown_in schemas world client ≡ records (store_of kept.peer)
 store_shows schemas world code stands n client kept at there =
@@ -38,6 +38,6 @@ same_maps f (c ∷ clients) (k ∷ kept) long each =
     λ i. each 0 c k refl refl i ∷ same_maps f clients kept rest (λ n d x at there. each (suc n) d x at there) i
 
 -- all clients show what their stores have
-pub shown_are : (schemas : Schemas EditFault) (world : model.World) (code : World) → world_of.Stands schemas world code → shown_by schemas world ≡ maps_of (stores_of code)
+pub shown_are : (schemas : WorldSchemas EditFault) (world : model.World) (code : World) → world_of.Stands schemas world code → shown_by schemas world ≡ maps_of (stores_of code)
 shown_are schemas world code stands =
     same_maps (shown_in schemas world) world.clients code.live.clients.items stands.keeps.fits.clients.long (store_shows schemas world code stands)

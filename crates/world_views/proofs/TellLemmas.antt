@@ -7,7 +7,7 @@ use Rattle.record_store.specs.Seen.{Seen, records, begun, watches}
 use Rattle.signal_core.specs.declared.watch.TheConstants.{MOST_WATCHES}
 use Rattle.live_views.specs.Watches as views
 use Rattle.live_views.specs.Watches.{Watched, Stand, told_now, news}
-use Rattle.room_model.specs.Schemas.{Schemas}
+use Rattle.room_model.specs.Schemas.{WorldSchemas}
 use Rattle.room_model.specs.Replicas.{Client}
 use Rattle.room_model.specs.Worlds.{shown_in}
 use Rattle.rec_format.specs.declared.printed.PrintedLine.{PrintedLine}
@@ -31,7 +31,7 @@ use Rattle.world_views.proofs.EventLemmas.{many_stores, tells_nothing}
 use Rattle.world_views.proofs.WatchLemmas.{some_of, new_watch, told_alike}
 
 -- a client that was made, with what it watches and its store
-pub record IsMade (schemas : Schemas EditFault) (client : ℕ) (viewed : Viewed) (code : World) : Type 0 where
+pub record IsMade (schemas : WorldSchemas EditFault) (client : ℕ) (viewed : Viewed) (code : World) : Type 0 where
   pub one : Client
   pub at : slice_get viewed.world.clients client ≡ Some one
   pub ws : List Watched
@@ -40,7 +40,7 @@ pub record IsMade (schemas : Schemas EditFault) (client : ℕ) (viewed : Viewed)
   pub stored : slice_get (stores_of code) client ≡ Some store
   pub shows : shown_in schemas viewed.world one ≡ records store
 
-module _ (schemas : Schemas EditFault) (client : ℕ) (viewed : Viewed) where
+module _ (schemas : WorldSchemas EditFault) (client : ℕ) (viewed : Viewed) where
   pub is_made : (code : World) → world_of.Stands schemas viewed.world code → AreKept IsViewing viewed.watched (stores_of code) → client < vec_len code.live.clients → IsMade schemas client viewed code
   is_made code stands views less =
       let long = code.live.clients.ok.0 in
@@ -157,7 +157,7 @@ module _ (schemas : Schemas EditFault) (client : ℕ) (viewed : Viewed) where
           quiet = quiet_still viewed.watched (stores_of old) (stores_of new) changed.long maps keeps.quiet;
         }
 
-module _ (schemas : Schemas EditFault) (client : ℕ) (viewed : Viewed) (code : World) (kept : AreKept IsViewing viewed.watched (stores_of code)) (made : IsMade schemas client viewed code) where
+module _ (schemas : WorldSchemas EditFault) (client : ℕ) (viewed : Viewed) (code : World) (kept : AreKept IsViewing viewed.watched (stores_of code)) (made : IsMade schemas client viewed code) where
   store_is : (store : Seen) → slice_get (stores_of code) client ≡ Some store → made.store ≡ store
   store_is store there = let both : Some made.store ≡ Some store = sym made.stored ∙ there in cc
 
@@ -181,14 +181,14 @@ module _ (schemas : Schemas EditFault) (client : ℕ) (viewed : Viewed) (code : 
       subst (Stand (watches t)) (ap (λ m. views.all_told m (some_of made.ws)) made.shows ∙ told_alike (records made.store) made.ws) (has t there)
 
 -- a client that watches fewer views than may be watches a further one
-pub watches_more : (schemas : Schemas EditFault) (client : ℕ) (view : View) (viewed : Viewed) (ws : List Watched) → slice_get viewed.watched client ≡ Some ws
+pub watches_more : (schemas : WorldSchemas EditFault) (client : ℕ) (view : View) (viewed : Viewed) (ws : List Watched) → slice_get viewed.watched client ≡ Some ws
     → nat_le MOST_WATCHES (length ws) ≡ false → on_watch schemas client view viewed ≡ Ok (tells schemas [] (with_watch schemas client view ws viewed))
 watches_more schemas client view viewed ws at less =
     let goes : List Watched → Outcome EditFault = λ vs. if nat_le MOST_WATCHES (length vs) then Err Limit else Ok (tells schemas [] (with_watch schemas client view vs viewed)) in
     ap (λ o. option_map_or goes o (Err NoSuchClient)) at ∙ ap (λ b. if b then Err Limit else Ok (tells schemas [] (with_watch schemas client view ws viewed))) less
 
 -- one that watches as many as may be doesn't
-pub watches_no_more : (schemas : Schemas EditFault) (client : ℕ) (view : View) (viewed : Viewed) (ws : List Watched) → slice_get viewed.watched client ≡ Some ws
+pub watches_no_more : (schemas : WorldSchemas EditFault) (client : ℕ) (view : View) (viewed : Viewed) (ws : List Watched) → slice_get viewed.watched client ≡ Some ws
     → nat_le MOST_WATCHES (length ws) ≡ true → on_watch schemas client view viewed ≡ Err Limit
 watches_no_more schemas client view viewed ws at full =
     let goes : List Watched → Outcome EditFault = λ vs. if nat_le MOST_WATCHES (length vs) then Err Limit else Ok (tells schemas [] (with_watch schemas client view vs viewed)) in

@@ -3,7 +3,7 @@ use Rattle.std.specs.Prelude.{◌≡◌, ◌≢◌, ℕ, List, [], map, Bool, tr
 use Rattle.std.specs.Global.{Vec}
 use Rattle.record_store.specs.Seen.{Seen, records, begun, watches}
 use Rattle.live_views.specs.Watches.{Watched, Stand, news}
-use Rattle.room_model.specs.Schemas.{Schemas}
+use Rattle.room_model.specs.Schemas.{WorldSchemas}
 use Rattle.room_model.specs.declared.fault.StepFault.{StepFault}
 use Rattle.room_model.specs.declared.fault.StepFault.TheVariants.{OutOfMemory}
 use Rattle.rec_format.specs.declared.printed.PrintedLine.{PrintedLine}
@@ -28,7 +28,7 @@ abbrev pub IsQuiet : List Watched → Seen → Type 0
 IsQuiet ws store = news (records store) (map Some ws) ≡ []
 
 -- what holds between events
-pub record Keeps (schemas : Schemas EditFault) (viewed : Viewed) (code : World) : Type 0 where
+pub record Keeps (schemas : WorldSchemas EditFault) (viewed : Viewed) (code : World) : Type 0 where
   -- the world stands for that of the definitions
   pub world : world_of.Stands schemas viewed.world code
   -- each store has the watches of its client
@@ -37,24 +37,24 @@ pub record Keeps (schemas : Schemas EditFault) (viewed : Viewed) (code : World) 
   pub quiet : AreKept IsQuiet viewed.watched (stores_of code)
 
 -- while an event happens: the same, but that one client may have something to tell
-pub record MayTell (schemas : Schemas EditFault) (number : ℕ) (viewed : Viewed) (code : World) : Type 0 where
+pub record MayTell (schemas : WorldSchemas EditFault) (number : ℕ) (viewed : Viewed) (code : World) : Type 0 where
   pub world : world_of.Stands schemas viewed.world code
   pub watched : AreKept IsViewing viewed.watched (stores_of code)
   pub quiet : (n : ℕ) (ws : List Watched) (store : Seen) → n ≢ number → slice_get viewed.watched n ≡ Some ws → slice_get (stores_of code) n ≡ Some store → IsQuiet ws store
 
 -- after an event the client may have something to tell whose document it may have changed, if there is one
-abbrev pub After : Schemas EditFault → Option ℕ → Viewed → World → Type 0
+abbrev pub After : WorldSchemas EditFault → Option ℕ → Viewed → World → Type 0
 After schemas None viewed code = Keeps schemas viewed code
 After schemas (Some client) viewed code = MayTell schemas client viewed code
 
 -- a world whose memory never ran out stands for one of the definitions
-pub record Stands (schemas : Schemas EditFault) (viewed : Viewed) (code : ViewedWorld) : Type 0 where
+pub record Stands (schemas : WorldSchemas EditFault) (viewed : Viewed) (code : ViewedWorld) : Type 0 where
   pub going : code.spent ≡ false
   pub keeps : Keeps schemas viewed code.world
 
 -- a step answers the lines, and the code stands for the next world. Or it answers the fault, and the code stands for the world as it was.
 -- After want of memory nothing is said
-abbrev pub StepsTo : Schemas EditFault → Viewed → Outcome EditFault → Result (Vec PrintedLine) (StepFault EditFault) → ViewedWorld → Type 0
+abbrev pub StepsTo : WorldSchemas EditFault → Viewed → Outcome EditFault → Result (Vec PrintedLine) (StepFault EditFault) → ViewedWorld → Type 0
 StepsTo schemas viewed outcome (Ok lines) code = (made : Stepped) × (outcome ≡ Ok made) × (lines.items ≡ made.lines) × Stands schemas made.viewed code
 StepsTo schemas viewed outcome (Err fault) code = fault ≢ OutOfMemory → (outcome ≡ Err fault) × Stands schemas viewed code
 

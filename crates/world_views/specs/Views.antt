@@ -4,7 +4,7 @@ use Rattle.std.specs.Prelude.{ℕ, ◌+◌, nat_le, List, [], ◌∷◌, ◌++�
 use Rattle.std.specs.Option.{option_map_or}
 use Rattle.rooms_val.specs.Data.{Data, Pairs}
 use Rattle.rooms_val.specs.View.{val_of}
-use Rattle.room_model.specs.Schemas.{Schemas}
+use Rattle.room_model.specs.Schemas.{WorldSchemas}
 use Rattle.room_model.specs.Worlds as model
 use Rattle.room_model.specs.Worlds.{World, new_world, shown_in}
 use Rattle.room_model.specs.declared.event.Event.{Event}
@@ -63,7 +63,7 @@ abbrev pub with_joined : Event → List (List Watched) → List (List Watched)
 with_joined (event.Client version) watched = watched ++ [] ∷ []
 with_joined other watched = watched
 
-module _ {F : Type 0} (schemas : Schemas F) where
+module _ {F : Type 0} (schemas : WorldSchemas F) where
   -- what each client shows
   abbrev pub shown_by : World → List Pairs
   shown_by world = map (shown_in schemas world) world.clients

@@ -1,6 +1,6 @@
 //! A world whose clients watch views, which plays a recording event by event.
 ghost use Rattle.std.specs.Prelude.{◌≡◌, ◌∷◌, [], ℕ, Bool, List, Some, None, true, IfOk, OnOk, Err};
-ghost use Rattle.room_model.specs.Schemas.{Schemas};
+ghost use Rattle.room_model.specs.Schemas.{WorldSchemas};
 ghost use Rattle.side_effects.specs.declared.fault.EditFault.{EditFault};
 ghost use Rattle.tl_tables.specs.Tables.{IsVersion};
 ghost use Rattle.sync_world.specs.Playing.{IsPlayed};
@@ -39,7 +39,7 @@ impl ViewedWorld {
     /// is no client. It costs the schema.
     pub fn new(alloc: Global, version: u32) -> Mem<ViewedWorld>
         requires { IsVersion version }
-        ensures { IfOk result (λ code. (schemas : Schemas EditFault)
+        ensures { IfOk result (λ code. (schemas : WorldSchemas EditFault)
             × (IsAtVersion version schemas) × Stands schemas nothing_viewed code) }
     {
         Ok(ViewedWorld {
@@ -67,7 +67,7 @@ impl ViewedWorld {
         steps: &mut Steps<L>,
     ) -> Result<Vec<PrintedLine>, StepFault<EditFault>>
         requires { IsPlayable event }
-        ensures step { (schemas : Schemas EditFault) (viewed : Viewed)
+        ensures step { (schemas : WorldSchemas EditFault) (viewed : Viewed)
             → Stands schemas viewed self.old
             → StepsTo schemas viewed (after_recorded schemas trace viewed event) result self.new }
         ensures caught_up { CaughtUpShowTheRoom self.new.world }
@@ -106,7 +106,7 @@ impl ViewedWorld {
         steps: &mut Steps<L>,
     ) -> Mem<Answer>
         requires { IsPlayable event }
-        ensures { IfOk result (λ answer. (schemas : Schemas EditFault) (viewed : Viewed)
+        ensures { IfOk result (λ answer. (schemas : WorldSchemas EditFault) (viewed : Viewed)
             → Stands schemas viewed self.old
             → StepsTo schemas viewed (after_recorded schemas trace viewed event) answer self.new) }
     {
@@ -130,7 +130,7 @@ impl ViewedWorld {
         steps: &mut Steps<L>,
     ) -> Mem<Answer>
         requires { IsPlayed event }
-        ensures { IfOk result (λ answer. (schemas : Schemas EditFault) (viewed : Viewed)
+        ensures { IfOk result (λ answer. (schemas : WorldSchemas EditFault) (viewed : Viewed)
             → Stands schemas viewed self.old
             → StepsTo schemas viewed (on_event schemas trace event viewed) answer self.new) }
     {
@@ -152,7 +152,7 @@ impl ViewedWorld {
         view: &View,
         steps: &mut Steps<L>,
     ) -> Mem<Answer>
-        ensures { IfOk result (λ answer. (schemas : Schemas EditFault) (viewed : Viewed)
+        ensures { IfOk result (λ answer. (schemas : WorldSchemas EditFault) (viewed : Viewed)
             → Stands schemas viewed self.old
             → StepsTo schemas viewed (on_watch schemas client view.now viewed) answer self.new) }
     {
@@ -169,7 +169,7 @@ impl ViewedWorld {
     // A client asks for the ids of the records of a type, among those that it shows, that meet a
     // query.
     fn query(&self, alloc: Global, client: u64, type_name: &str, query: &Query) -> Mem<Answer>
-        ensures { IfOk result (λ answer. (schemas : Schemas EditFault) (viewed : Viewed)
+        ensures { IfOk result (λ answer. (schemas : WorldSchemas EditFault) (viewed : Viewed)
             → Stands schemas viewed self.now
             → StepsTo schemas viewed (on_query schemas client type_name.now query.now viewed) answer
             self.now) }
@@ -189,7 +189,7 @@ impl ViewedWorld {
         lines: Vec<PrintedLine>,
         steps: &mut Steps<L>,
     ) -> Mem<Vec<PrintedLine>>
-        ensures told { IfOk result (λ all. (schemas : Schemas EditFault) (viewed : Viewed)
+        ensures told { IfOk result (λ all. (schemas : WorldSchemas EditFault) (viewed : Viewed)
             → After schemas changed viewed self.old.world
             → (all.items ≡ (tells schemas lines.items viewed).lines)
             × Keeps schemas (tells schemas lines.items viewed).viewed self.new.world) }
@@ -209,7 +209,7 @@ impl ViewedWorld {
         lines: Vec<PrintedLine>,
         steps: &mut Steps<L>,
     ) -> Mem<Vec<PrintedLine>>
-        ensures told { IfOk result (λ all. (schemas : Schemas EditFault) (viewed : Viewed)
+        ensures told { IfOk result (λ all. (schemas : WorldSchemas EditFault) (viewed : Viewed)
             → MayTell schemas client viewed self.old.world
             → (all.items ≡ (tells schemas lines.items viewed).lines)
             × Keeps schemas (tells schemas lines.items viewed).viewed self.new.world) }
