@@ -18,7 +18,7 @@ use Rattle.room_model.specs.declared.history.Entry.{Entry}
 use Rattle.room_model.specs.declared.limits.TheConstants.{MOST_TOLD}
 use Rattle.room_model.proofs.CallLemmas.{member_of}
 use Rattle.room_events.specs.Events.{events_of}
-use Rattle.room_events.specs.Following.{Follower, IsOf, AreResultsOf, request_of, replica_of}
+use Rattle.room_events.specs.Following.{Follower, Follows, AreResultsOf, request_of, replica_of}
 use Rattle.room_events.specs.Legal.{Legal, state_of}
 use Rattle.room_events.specs.Told.{told_up_to}
 use Rattle.room_events.specs.declared.room_event.RoomEvent.{RoomEvent}
@@ -209,7 +209,7 @@ module _ (schemas : Schemas) (lawful : AreLawful schemas) (last : ℕ) (n : ℕ)
       let tells : GivesSo schemas room n h.0 message (Some given.0) = subst (GivesSo schemas room n h.0 message) next (given_so schemas room n h.0 message h.0.phase refl) in
       (m.0, (h.0, it.at, tells given.2))
 
-  by_phase : (events : List RoomEvent) (legal : Legal schemas last events) (is : IsOf schemas client (events_of n events)) (s : Session) → slice_get (state_of schemas last events).sessions n ≡ Some s
+  by_phase : (events : List RoomEvent) (legal : Legal schemas last events) (is : Follows schemas client (events_of n events)) (s : Session) → slice_get (state_of schemas last events).sessions n ≡ Some s
       → ByPhase schemas lawful n client is.admits (where_it_is schemas lawful last n client events legal is).0 (told_up_to (events_of n events)) (count_by (is_by n) (state_of schemas last events).history) (Some s.phase)
   by_phase events legal is s at =
       let w = where_it_is schemas lawful last n client events legal is in
@@ -225,7 +225,7 @@ module _ (schemas : Schemas) (lawful : AreLawful schemas) (last : ℕ) (n : ℕ)
   asked_so room s admits k told hydration request protocol versions diff clock readonly (ended reason said) by tells = absurd tells
   asked_so room s admits k told hydration request protocol versions diff clock readonly gone by tells = absurd tells
 
-  pub snapshot_expected : (told : ServerMessage) (request : List ℕ) → Legal schemas last (before ++ Drain n (Some (out.Message told)) ∷ after) → IsOf schemas client (events_of n before)
+  pub snapshot_expected : (told : ServerMessage) (request : List ℕ) → Legal schemas last (before ++ Drain n (Some (out.Message told)) ∷ after) → Follows schemas client (events_of n before)
       → request_of told ≡ Some request → (told_up_to (events_of n before) ≡ None) × (request ≡ client.request)
   snapshot_expected (reply.Connect hydration asked_for protocol versions diff clock readonly) request legal is of_ =
       let g = given_at (reply.Connect hydration asked_for protocol versions diff clock readonly) legal in
@@ -248,7 +248,7 @@ module _ (schemas : Schemas) (lawful : AreLawful schemas) (last : ℕ) (n : ℕ)
   live_so room s admits k told replica news (ended reason said) it by tells = absurd tells
   live_so room s admits k told replica news gone it by tells = absurd tells
 
-  pub results_expected : (news : List DataEvent) → Legal schemas last (before ++ Drain n (Some (out.Message (reply.Data news))) ∷ after) → IsOf schemas client (events_of n before)
+  pub results_expected : (news : List DataEvent) → Legal schemas last (before ++ Drain n (Some (out.Message (reply.Data news))) ∷ after) → Follows schemas client (events_of n before)
       → AreResultsOf (replica_of schemas client (events_of n before)).pending news
   results_expected news legal is =
       let g = given_at (reply.Data news) legal in

@@ -25,7 +25,7 @@ use Rattle.room_model.proofs.ClosingLemmas.{by_number}
 use Rattle.room_model.proofs.EntryLemmas.{reachable_acts}
 use Rattle.room_model.proofs.UpdateLemmas.{updated}
 use Rattle.room_events.specs.Events.{session_of, events_of}
-use Rattle.room_events.specs.Following.{Follower, pushed_by, pushes_of, IsPushOf, ArePushed, Asks, AllAsk, IsOf, replica_given, replica_after, replica_of, told_replica}
+use Rattle.room_events.specs.Following.{Follower, pushed_by, pushes_of, IsPushOf, ArePushed, Asks, AllAsk, Follows, replica_given, replica_after, first_replica, replica_of, told_replica}
 use Rattle.room_events.specs.Legal.{room_after, AllHappen, Legal, state_of}
 use Rattle.room_events.specs.Told.{told_by, told_after, told_up_to}
 use Rattle.room_events.specs.declared.room_event.RoomEvent.{RoomEvent}
@@ -163,9 +163,77 @@ module _ (schemas : Schemas) where
       ∙ all_grow room after (rest_happen (new_room last) before after legal) (length room.history) least
       ∙ oldest_all room.history
 
+-- a history doesn't get shorter
+longer : (schemas : Schemas) (n : ℕ) (room : Room) (event : RoomEvent) (after : Room) → Seen schemas n room event after → length room.history ≤ length after.history
+longer schemas n room event after (passes _ _ apart s) = grown_length n room.history after.history s.grows
+longer schemas n room _ after (enters readonly _ none now is) = let size = ap length is in omega arith
+longer schemas n room _ after (asks request reached protocol versions replied plan _ was now planned is) = let size = ap length is in omega arith
+longer schemas n room _ after (pings replied _ s) = grown_length n room.history after.history s.grows
+longer schemas n room _ after (takes what replied s sent plan push _ says at is taken rest) =
+    let least = grown_length n (entry_by schemas room n s plan push ∷ room.history) after.history rest.grows in omega arith
+longer schemas n room _ after (closes what replied _ over grows) = grown_length n room.history after.history grows
+longer schemas n room _ after (leaves _ over grows) = grown_length n room.history after.history grows
+longer schemas n room _ after (answers s request reached plan _ at is now same_) = let size = ap length same_ in omega arith
+longer schemas n room _ after (tells s sent plan _ at is less now same_) = let size = ap length same_ in omega arith
+longer schemas n room _ after (quiet given _ none s) = grown_length n room.history after.history s.grows
+
+-- what a session was told up to is a clock of the history
+abbrev IsBounded : Room → Option ℤ → Type 0
+IsBounded room told = (to : ℤ) → told ≡ Some to → (clock : ℕ) × (to ≡ pos clock) × (clock ≤ length room.history)
+
+module _ (schemas : Schemas) (n : ℕ) where
+  kept_bounded : (room : Room) (told : Option ℤ) (after : Room) → length room.history ≤ length after.history → IsBounded room told → IsBounded after told
+  kept_bounded room told after least it to is =
+      let h = it to is in
+      let less : h.0 ≤ length room.history = h.2 in
+      (h.0, h.1, omega (arith, least, less))
+
+  now_bounded : (room : Room) (told : Option ℤ) (after : Room) → told ≡ Some (pos (length room.history)) → length room.history ≤ length after.history → IsBounded after told
+  now_bounded room told after now least to is = (length room.history, same_Some to (pos (length room.history)) (sym is ∙ now), least)
+
+  own_bounded : (room : Room) (told : Option ℤ) (event : RoomEvent) (after : Room) → Seen schemas n room event after → session_of event ≡ n → IsBounded room told → IsBounded after (told_after told event)
+  own_bounded room told event after (passes _ _ apart s) own it = absurd (apart own)
+  own_bounded room told _ after (enters readonly _ none now is) own it = kept_bounded room told after (let size = ap length is in omega arith) it
+  own_bounded room told _ after (asks request reached protocol versions replied plan _ was now planned is) own it = kept_bounded room told after (let size = ap length is in omega arith) it
+  own_bounded room told _ after (pings replied _ s) own it = kept_bounded room told after (grown_length n room.history after.history s.grows) it
+  own_bounded room told _ after (takes what replied s sent plan push _ says at is taken rest) own it =
+      kept_bounded room told after (longer schemas n room (Message n what replied) after (takes what replied s sent plan push after says at is taken rest)) it
+  own_bounded room told _ after (closes what replied _ over grows) own it = kept_bounded room told after (grown_length n room.history after.history grows) it
+  own_bounded room told _ after (leaves _ over grows) own it = kept_bounded room told after (grown_length n room.history after.history grows) it
+  own_bounded room told _ after (answers s request reached plan _ at is now same_) own it = now_bounded room (Some (pos (length room.history))) after refl (let size = ap length same_ in omega arith)
+  own_bounded room told _ after (tells s sent plan _ at is less now same_) own it =
+      now_bounded room _ after (updates_told schemas (member_of n s plan) sent room.history told less) (let size = ap length same_ in omega arith)
+  own_bounded room told _ after (quiet given _ none s) own it = quiet_bounded given none (kept_bounded room told after (grown_length n room.history after.history s.grows) it)
+    where
+      quiet_bounded : (given : Option Out) → IsQuiet given → IsBounded after told → IsBounded after (told_by told given)
+      quiet_bounded None none it = it
+      quiet_bounded (Some (out.Message (reply.Connect hydration request protocol versions diff clock readonly))) none it = absurd none
+      quiet_bounded (Some (out.Message (reply.Data events))) none it = absurd none
+      quiet_bounded (Some (out.Message reply.Pong)) none it = it
+      quiet_bounded (Some (out.End reason)) none it = it
+
+  all_bounded : (room : Room) (told : Option ℤ) (events : List RoomEvent) → AllHappen schemas room events → IsBounded room told
+      → IsBounded (fold (room_after schemas) room events) (fold told_after told (events_of n events))
+  all_bounded room told [] all it = it
+  all_bounded room told (event ∷ events) all it =
+      let later = events_of n events in
+      let one = seen schemas room n event all.0 all.1 in
+      let end : Room → Room = λ r. fold (room_after schemas) r events in
+      by_number (λ b. IsBounded (end (room_after schemas room event)) (fold told_after told (cond b (event ∷ later) later))) (session_of event) n
+      (λ own. subst (λ r. IsBounded (end r) (fold told_after (told_after told event) later)) (sym all.1.1)
+      (all_bounded all.0 (told_after told event) events all.2 (own_bounded room told event all.0 one own it)))
+      (λ apart. subst (λ r. IsBounded (end r) (fold told_after told later)) (sym all.1.1)
+      (all_bounded all.0 told events all.2 (kept_bounded room told all.0 (longer schemas n room event all.0 one) it)))
+
+module _ (schemas : Schemas) where
+  pub told_bounded : (last : ℕ) (events : List RoomEvent) (n : ℕ) (told : ℤ) → Legal schemas last events → told_up_to (events_of n events) ≡ Some told
+      → (clock : ℕ) × (told ≡ pos clock) × (clock ≤ length (state_of schemas last events).history)
+  unfolding Legal state_of
+  told_bounded last events n told legal is = all_bounded schemas n (new_room last) None events legal (λ to is. absurd (cc)) told is
+
 module _ (schemas : Schemas) (lawful : AreLawful schemas) (n : ℕ) (client : Follower) (admits : client.plan ≡ [] → (id : List ℕ) (d : Data) → client.admits id d ≡ schemas.admits id d) where
   abbrev pub start : Replica
-  start = record { base = client.base; pending = client.items }
+  start = first_replica client
 
   -- what was told, how many entries are the session's and how many pushes there were, by the phase
   abbrev pub ByPhase : ℕ → Option ℤ → ℕ → Option Phase → Type 0
@@ -333,7 +401,7 @@ module _ (schemas : Schemas) (lawful : AreLawful schemas) (n : ℕ) (client : Fo
       (subst (ByPhase k told (count_by (is_by n) room.history)) (sym now) (subst (ByPhase k told (count_by (is_by n) room.history)) none it.phase))
   own_step room _ _ k told replica reach (asks request reached protocol versions replied plan after was now planned is) own it said next =
       let by : ByPhase k told (count_by (is_by n) room.history) (Some new) = subst (ByPhase k told (count_by (is_by n) room.history)) was it.phase in
-      let plan_is : plan ≡ client.plan = let e = sym planned ∙ said.1 in cc in
+      let plan_is : plan ≡ client.plan = said.1 plan planned in
       goes_at room after k told replica it is (subst (ByPhase k told (count_by (is_by n) room.history)) (sym now) (by.0, by.1, by.2, said.0, plan_is, said.2))
   own_step room _ _ k told replica reach (pings replied after s) own it said next = still_at room after k told replica it s
   own_step room _ _ k told replica reach (takes what replied s sent plan push after says at is taken rest) own it said next =
@@ -414,7 +482,7 @@ module _ (schemas : Schemas) (lawful : AreLawful schemas) (n : ℕ) (client : Fo
 
 module _ (schemas : Schemas) (lawful : AreLawful schemas) (last : ℕ) (n : ℕ) (client : Follower) where
   -- where a client is after a legal list
-  pub where_it_is : (events : List RoomEvent) (legal : Legal schemas last events) (is : IsOf schemas client (events_of n events))
+  pub where_it_is : (events : List RoomEvent) (legal : Legal schemas last events) (is : Follows schemas client (events_of n events))
       → (j : ℕ) × At schemas lawful n client is.admits (state_of schemas last events) j (told_up_to (events_of n events)) (replica_of schemas client (events_of n events))
   unfolding Legal state_of
   where_it_is events legal is =
@@ -422,6 +490,10 @@ module _ (schemas : Schemas) (lawful : AreLawful schemas) (last : ℕ) (n : ℕ)
       record { answered = tt; phase = (refl, refl, refl); waits = λ none. refl; base = λ clock is. absurd (cc) } in
       follow schemas lawful n client is.admits (new_room last) events 0 None (start schemas lawful n client is.admits) (made last) legal is.asks is.pushes begins
 
-  pub client_follows : (events : List RoomEvent) (clock : ℕ) → Legal schemas last events → IsOf schemas client (events_of n events) → told_up_to (events_of n events) ≡ Some (pos clock)
+  pub client_follows : (events : List RoomEvent) (clock : ℕ) → Legal schemas last events → Follows schemas client (events_of n events) → told_up_to (events_of n events) ≡ Some (pos clock)
       → replica_of schemas client (events_of n events) ≡ told_replica schemas client n (oldest clock (state_of schemas last events).history)
   client_follows events clock legal is told = ((where_it_is events legal is).1.base clock told).1
+
+  pub client_waits : (events : List RoomEvent) → Legal schemas last events → Follows schemas client (events_of n events) → told_up_to (events_of n events) ≡ None
+      → replica_of schemas client (events_of n events) ≡ first_replica client
+  client_waits events legal is told = (where_it_is events legal is).1.waits told

@@ -27,7 +27,7 @@ pub record Follower : Type 0 where
   pub plan : Plan
   -- the base that it had before, which it won't keep
   pub base : Pairs
-  -- what it pushes on the session, the oldest first
+  -- what it pushes on the session, the oldest first: also what it will push later, under the numbers that it gets there
   pub items : List Pending
 
 -- the push that an event is, if it is one
@@ -64,20 +64,25 @@ AreResultsOf items (Patch diff clock ∷ events) = AreResultsOf items events
 AreResultsOf [] (PushResult client_clock clock action ∷ events) = ⊥
 AreResultsOf (item ∷ items) (PushResult client_clock clock action ∷ events) = (option_map pos item.sent_as ≡ Some client_clock) × AreResultsOf items events
 
+-- the replica of a client that was told nothing: pending are all its items, those too that it will push later
+abbrev pub first_replica : Follower → Replica
+first_replica client = record { base = client.base; pending = client.items }
+
 module _ (schemas : Schemas) where
-  -- a connect is under the client's request, says that no clock was reached, and tells a schema from which the client's plan leads
+  -- an event is the client's own if it connects: it is under the client's request, says that no clock was reached, and tells a
+  -- schema from which no plan but the client's leads. The room may refuse that schema; and an event that is no connect is as it is
   abbrev pub Asks : Follower → RoomEvent → Type 0
   Asks client (call.Message number (message.Connect request reached protocol versions) replied) =
-      (reached ≡ negsuc 0) × (schemas.plan_for versions ≡ Ok client.plan) × (request ≡ client.request)
+      (reached ≡ negsuc 0) × ((plan : Plan) → schemas.plan_for versions ≡ Ok plan → plan ≡ client.plan) × (request ≡ client.request)
   Asks client event = Unit {0}
 
-  -- each of some events does so if it is a connect
+  -- each of some events is so
   abbrev pub AllAsk : Follower → List RoomEvent → Type 0
   AllAsk client [] = Unit {0}
   AllAsk client (event ∷ events) = Asks client event × AllAsk client events
 
-  -- a client is that of a session with some events: they are its messages, in order; and one at the room's schema admits what the room does
-  pub record IsOf (client : Follower) (mine : List RoomEvent) : Type 0 where
+  -- a client follows a session with some events: they are its messages, in order; and one at the room's schema admits what the room does
+  pub record Follows (client : Follower) (mine : List RoomEvent) : Type 0 where
     pub asks : AllAsk client mine
     pub pushes : ArePushed client.items (pushes_of mine)
     pub admits : client.plan ≡ [] → (id : List ℕ) (d : Data) → client.admits id d ≡ schemas.admits id d
@@ -98,12 +103,12 @@ module _ (schemas : Schemas) where
   replica_after admits replica (call.Drain number out) = replica_given admits replica out
   replica_after admits replica (call.Leave number) = replica
 
-  -- the replica of a client after events of its session; what is pending has in it what it will push
+  -- the replica of a client after events of its session
   abbrev pub replica_of : Follower → List RoomEvent → Replica
-  replica_of client mine = fold (replica_after client.admits) (record { base = client.base; pending = client.items }) mine
+  replica_of client mine = fold (replica_after client.admits) (first_replica client) mine
 
-  -- the replica of a client that was told all of a history: the base is the room's, seen along its plan, and what the session's own
-  -- entries answer is pending no more
+  -- the replica of a client that was told all of a history: the base is the room's, seen along its plan with the presence of others
+  -- alone; and pending are all but as many of the first items as the session has entries there
   abbrev pub told_replica : Follower → ℕ → History → Replica
   told_replica client number history = record {
     base = whole_for schemas client.plan number (records_of history);

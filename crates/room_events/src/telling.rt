@@ -1,12 +1,12 @@
 //! Laws of what a session is told by the replies of a legal list.
-ghost use Rattle.std.specs.Prelude.{◌≡◌, ℕ, pos, List, ◌∷◌, ◌++◌, slice_get};
+ghost use Rattle.std.specs.Prelude.{◌≡◌, ℕ, ◌≤◌, ℤ, pos, List, ◌∷◌, ◌++◌, length, slice_get};
 ghost use Rattle.std.specs.Prelude.{Some, None};
 ghost use Rattle.room_model.specs.Schemas.{Schemas, AreLawful, Plan};
 ghost use Rattle.room_model.specs.Histories.{oldest};
 ghost use Rattle.room_model.specs.Rooms.{live, Session};
 ghost use Rattle.room_events.specs.Events.{events_of};
-ghost use Rattle.room_events.specs.Following.{Follower, IsOf, AreResultsOf, request_of};
-ghost use Rattle.room_events.specs.Following.{replica_of, told_replica};
+ghost use Rattle.room_events.specs.Following.{Follower, Follows, AreResultsOf, request_of};
+ghost use Rattle.room_events.specs.Following.{first_replica, replica_of, told_replica};
 ghost use Rattle.room_events.specs.Legal.{Legal, state_of};
 ghost use Rattle.room_events.specs.Told.{told_up_to, GoOnFrom};
 ghost use Rattle.room_events.specs.declared.room_event.RoomEvent.{RoomEvent};
@@ -16,11 +16,16 @@ ghost use Rattle.sync_msgs.specs.declared.out.Out.TheVariants as out;
 ghost use Rattle.sync_msgs.specs.declared.server_message.ServerMessage.{ServerMessage};
 ghost use Rattle.sync_msgs.specs.declared.server_message.ServerMessage.TheVariants as reply;
 
-/// The sent clock of a live session is that up to which it was told by what it was given: the clock
-/// of its snapshot, or of the last event of the last updates after that (`sent`). And updates to a
-/// session go on from there: their events are at the next clocks, or, in a catch-up, all at one
-/// later clock (`updates`).
+/// What a session was told by what it was given goes up to a clock of the room's history: the clock
+/// of its snapshot, or of the last event of the last updates after that (`bounded`). Of a live
+/// session that is the sent clock (`sent`). And updates to a session go on from there: their events
+/// are at the next clocks, or, in a catch-up, all at one clock that is more than 32 later
+/// (`updates`).
 pub fn told_in_order()
+    ensures bounded { (schemas : Schemas) (last : ℕ) (events : List RoomEvent) (number : ℕ)
+        (told : ℤ) → Legal schemas last events → told_up_to (events_of number events) ≡ Some told
+        → (clock : ℕ) × (told ≡ pos clock)
+        × (clock ≤ length (state_of schemas last events).history) }
     ensures sent { (schemas : Schemas) (last : ℕ) (events : List RoomEvent) (number : ℕ)
         (session : Session) (clock : ℕ) (plan : Plan) → Legal schemas last events
         → slice_get (state_of schemas last events).sessions number ≡ Some session
@@ -35,12 +40,20 @@ pub fn told_in_order()
 {}
 
 /// A client whose messages are those of its session, in order, and that had reached no clock when
-/// it connected, has the room's base at the clock up to which it was told, seen along its plan; and
-/// pending are the items that its session's entries up to there don't answer.
+/// it connected, is as it was as long as it was told nothing (`waits`). Once it was told something,
+/// it has the room's base at the clock up to which it was told, seen along its plan with the
+/// presence of others alone; and pending are, of its items, all but as many of the first as the
+/// session has entries up to there (`has_base`). Schemas are lawful; the client's plan is that from
+/// its schema, if the room takes that; and a client at the room's schema admits what the room does.
 pub fn clients_follow()
-    ensures { (schemas : Schemas) (last : ℕ) (events : List RoomEvent) (number : ℕ)
+    ensures waits { (schemas : Schemas) (last : ℕ) (events : List RoomEvent) (number : ℕ)
+        (client : Follower) → AreLawful schemas → Legal schemas last events
+        → Follows schemas client (events_of number events)
+        → told_up_to (events_of number events) ≡ None
+        → replica_of schemas client (events_of number events) ≡ first_replica client }
+    ensures has_base { (schemas : Schemas) (last : ℕ) (events : List RoomEvent) (number : ℕ)
         (client : Follower) (clock : ℕ) → AreLawful schemas → Legal schemas last events
-        → IsOf schemas client (events_of number events)
+        → Follows schemas client (events_of number events)
         → told_up_to (events_of number events) ≡ Some (pos clock)
         → replica_of schemas client (events_of number events)
         ≡ told_replica schemas client number
@@ -49,17 +62,18 @@ pub fn clients_follow()
 
 /// What such a client is given it expects: a snapshot only under its own request, and only one
 /// (`snapshots`); and the results in updates are those of the first items that are pending then, in
-/// order (`results`). That the clocks of updates don't fall is said by `told_in_order`.
+/// order (`results`). It need be such a client only by the events before. That the clocks of
+/// updates don't fall is said by `told_in_order`.
 pub fn replies_are_expected()
     ensures snapshots { (schemas : Schemas) (last : ℕ) (before after : List RoomEvent) (number : ℕ)
         (client : Follower) (told : ServerMessage) (request : List ℕ) → AreLawful schemas
         → Legal schemas last (before ++ call.Drain number (Some (out.Message told)) ∷ after)
-        → IsOf schemas client (events_of number before) → request_of told ≡ Some request
+        → Follows schemas client (events_of number before) → request_of told ≡ Some request
         → (told_up_to (events_of number before) ≡ None) × (request ≡ client.request) }
     ensures results { (schemas : Schemas) (last : ℕ) (before after : List RoomEvent) (number : ℕ)
         (client : Follower) (told : List DataEvent) → AreLawful schemas
         → Legal schemas last
         (before ++ call.Drain number (Some (out.Message (reply.Data told))) ∷ after)
-        → IsOf schemas client (events_of number before)
+        → Follows schemas client (events_of number before)
         → AreResultsOf (replica_of schemas client (events_of number before)).pending told }
 {}
