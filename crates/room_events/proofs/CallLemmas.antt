@@ -1,5 +1,5 @@
 -- What a call of a room needs, and what a message of a session makes of the room.
-use Rattle.std.proofs.Common.{◌≡◌, ℕ, suc, nat_lt, nat_le, true, false, cond, List, length, slice_get, Option, Some, None, option_map, is_some, Ok, Err, Result, refl, ap, subst, ◌∙◌}
+use Rattle.std.proofs.Common.{◌≡◌, ℕ, suc, ◌≤◌, nat_lt, nat_le, Bool, true, false, cond, List, length, slice_get, Option, Some, None, option_map, is_some, Ok, Err, Result, refl, ap, subst, ◌∙◌, arith}
 use Rattle.std.specs.Option.{option_map_or}
 use Rattle.std.proofs.lemmas.Option.{same_Some}
 use Rattle.migrate_seq.specs.Versions.{Versions}
@@ -39,12 +39,16 @@ pub found : {X : Type 0} (o : Option X) → is_some o ≡ true → (x : X) × (o
 found None is = absurd (cc)
 found (Some x) is = (x, refl)
 
+one_more : (b : Bool) (k : ℕ) → cond b (suc k) k ≤ suc k
+one_more true k = omega arith
+one_more false k = omega arith
+
 -- what a message of a session makes of the room
 pub data Receives (schemas : Schemas) (room : Room) (m : ℕ) (s : Session) (said : ClientMessage) : Room → Type 0 where
   ignores : is_over s.phase ≡ true → Receives schemas room m s said room
   asks_now : (request : List ℕ) (reached : _) (protocol : _) (versions : Versions) (plan : Plan) → said ≡ message.Connect request reached protocol versions → s.phase ≡ new
       → schemas.plan_for versions ≡ Ok plan → Receives schemas room m s said (with_session m (record s { phase = asked request reached plan }) room)
-  pings_now : (count : ℕ) → said ≡ message.Ping → Receives schemas room m s said (with_session m (record s { pings = count }) room)
+  pings_now : (count : ℕ) → count ≤ suc s.pings → said ≡ message.Ping → Receives schemas room m s said (with_session m (record s { pings = count }) room)
   refuses : (reason : EndReason) → Receives schemas room m s said (after_close m s (ended reason false) room)
   takes_now : (sent : ℕ) (plan : Plan) (push : Push) → push_of said ≡ Some push → s.phase ≡ live sent plan → is_taken schemas (member_of m s plan) push ≡ true
       → Receives schemas room m s said (after_entry (pushed_by schemas room m s plan push) room)
@@ -85,7 +89,7 @@ module _ (schemas : Schemas) (room : Room) (m : ℕ) where
     unended : (said : ClientMessage) → Receives schemas room m s said (after_unended schemas m s room said).room
     unended (message.Connect request reached protocol versions) = connects _ (record { request = request; reached = reached; protocol = protocol; versions = versions }) s.phase refl refl
     unended (message.Push client_clock diff presence) = pushes_in _ _ s.phase refl refl
-    unended message.Ping = pings_now (cond (nat_lt s.pings MOST_PINGS) (suc s.pings) s.pings) refl
+    unended message.Ping = pings_now (cond (nat_lt s.pings MOST_PINGS) (suc s.pings) s.pings) (one_more (nat_lt s.pings MOST_PINGS) s.pings) refl
 
     received_in : (said : ClientMessage) (phase : Phase) → s.phase ≡ phase → Receives schemas room m s said (after_message_in schemas m s room said phase).room
     received_in said new is = unended said

@@ -140,7 +140,7 @@ module _ (schemas : Schemas) (room : Room) (n : ℕ) (s : Session) (at : slice_g
   received_later said _ (ignores over) = itself room
   received_later said _ (asks_now request reached protocol versions plan says is planned) =
       with_later room n s (record s { phase = asked request reached plan }) at (sym (ap not stays)) (λ x none. absurd (cc))
-  received_later said _ (pings_now count says) = with_later room n s (record s { pings = count }) at refl (λ x is. is)
+  received_later said _ (pings_now count less says) = with_later room n s (record s { pings = count }) at refl (λ x is. is)
   received_later said _ (refuses reason) =
       then room (close n s (ended reason false) room) (after_close n s (ended reason false) room)
       (close_later room n s (ended reason false) at refl stays refl) (after_close_later room n s (ended reason false))

@@ -1,5 +1,5 @@
 -- How legal lists go on; that calls make the room after one; and who is in that room.
-use Rattle.std.proofs.Common.{◌≡◌, ℕ, ◌+◌, ◌-◌, nat_le, true, false, ◌||◌, cond, List, [], ◌∷◌, ◌++◌, fold, count_by, length, slice_get, Some, None, option_map, option_and_then, refl, sym, ap, subst, ◌∙◌, arith}
+use Rattle.std.proofs.Common.{◌≡◌, ℕ, ◌+◌, nat_le, true, false, ◌||◌, cond, List, [], ◌∷◌, ◌++◌, fold, count_by, length, slice_get, Some, None, option_map, option_and_then, refl, sym, ap, subst, ◌∙◌, arith}
 use Rattle.std.specs.Option.{option_map_or, unwrap_or}
 use Rattle.std.proofs.lemmas.List.{length-map}
 use Rattle.std.proofs.lemmas.List.Sums.{fold-append}

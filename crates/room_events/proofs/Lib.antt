@@ -2,6 +2,7 @@ pub mod CallLemmas
 pub mod HereLemmas
 pub mod RunLemmas
 pub mod LegalLemmas
+pub mod PingLemmas
 pub mod ToldLemmas
 pub mod SeenLemmas
 pub mod FollowLemmas

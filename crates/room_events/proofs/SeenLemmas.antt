@@ -1,5 +1,5 @@
 -- What an event of a room is to one session.
-use Rattle.std.proofs.Common.{◌≡◌, ◌⊎◌, inl, inr, ℕ, zero, suc, ◌+◌, ◌-◌, ◌<◌, ◌==◌, nat_lt, Bool, true, false, cond, List, [], ◌∷◌, ◌++◌, length, slice_get, Option, Some, None, option_map, option_and_then, Ok, refl, sym, ap, subst, ◌∙◌, arith}
+use Rattle.std.proofs.Common.{◌≡◌, ◌⊎◌, inl, inr, ℕ, zero, suc, ◌-◌, ◌<◌, ◌==◌, nat_lt, Bool, true, false, cond, List, [], ◌∷◌, ◌++◌, length, slice_get, Option, Some, None, option_map, option_and_then, Ok, refl, sym, ap, subst, ◌∙◌, arith}
 use Rattle.std.specs.Option.{option_map_or, unwrap_or}
 use Rattle.std.proofs.lemmas.Bool.Decides.{nat_tests}
 use Rattle.std.proofs.lemmas.Option.{slice_get_past}
@@ -163,7 +163,7 @@ module _ (schemas : Schemas) (room : Room) where
         let t : Session = record s { phase = asked request reached plan } in
         subst (λ it. Seen schemas n room (Message n it replied) (with_session n t room)) (sym says)
         (asks request reached protocol versions replied plan (with_session n t room) (phase_now room n s s at ∙ ap Some is) (phase_set room n s t at) planned refl)
-    received_own said replied _ (pings_now count says) =
+    received_own said replied _ (pings_now count less says) =
         let t : Session = record s { pings = count } in
         subst (λ it. Seen schemas n room (Message n it replied) (with_session n t room)) (sym says)
         (pings replied (with_session n t room) (record { phase = inl (phase_set room n s t at ∙ sym (phase_now room n s s at)); grows = same }))
@@ -222,7 +222,7 @@ module _ (schemas : Schemas) (room : Room) where
     received_still : (said : ClientMessage) (after : Room) → Receives schemas room m s said after → Still n room after
     received_still said _ (ignores over) = still n room
     received_still said _ (asks_now request reached protocol versions plan says is planned) = else_still room m s (record s { phase = asked request reached plan }) at n other
-    received_still said _ (pings_now count says) = else_still room m s (record s { pings = count }) at n other
+    received_still said _ (pings_now count less says) = else_still room m s (record s { pings = count }) at n other
     received_still said _ (refuses reason) = closing_still room m s (ended reason false) at refl n
     received_still said _ (takes_now sent plan push says is taken) =
         let entry = pushed_by schemas room m s plan push in

@@ -1,6 +1,7 @@
 //! Laws of what a session is told by the replies of a legal list.
 ghost use Rattle.std.specs.Prelude.{◌≡◌, ℕ, ◌≤◌, ℤ, pos, List, ◌∷◌, ◌++◌, length, slice_get};
-ghost use Rattle.std.specs.Prelude.{Some, None};
+ghost use Rattle.std.specs.Prelude.{count_by, false, Some, None};
+ghost use Rattle.std.specs.List.{list_any};
 ghost use Rattle.room_model.specs.Schemas.{Schemas, AreLawful, Plan};
 ghost use Rattle.room_model.specs.Histories.{oldest};
 ghost use Rattle.room_model.specs.Rooms.{live, Session};
@@ -8,7 +9,7 @@ ghost use Rattle.room_events.specs.Events.{events_of};
 ghost use Rattle.room_events.specs.Following.{Follower, Follows, AreResultsOf, request_of};
 ghost use Rattle.room_events.specs.Following.{first_replica, replica_of, told_replica};
 ghost use Rattle.room_events.specs.Legal.{Legal, state_of};
-ghost use Rattle.room_events.specs.Told.{told_up_to, GoOnFrom};
+ghost use Rattle.room_events.specs.Told.{told_up_to, GoOnFrom, is_ping, is_pong};
 ghost use Rattle.room_events.specs.declared.room_event.RoomEvent.{RoomEvent};
 ghost use Rattle.room_events.specs.declared.room_event.RoomEvent.TheVariants as call;
 ghost use Rattle.sync_msgs.specs.declared.data_event.DataEvent.{DataEvent};
@@ -76,4 +77,15 @@ pub fn replies_are_expected()
         (before ++ call.Drain number (Some (out.Message (reply.Data told))) ∷ after)
         → Follows schemas client (events_of number before)
         → AreResultsOf (replica_of schemas client (events_of number before)).pending told }
+{}
+
+/// A session is given at most as many pongs as it sent pings (`counts`); so it is given none if it
+/// sent none (`none`).
+pub fn no_pong_unasked()
+    ensures counts { (schemas : Schemas) (last : ℕ) (events : List RoomEvent) (number : ℕ)
+        → Legal schemas last events
+        → count_by is_pong (events_of number events) ≤ count_by is_ping (events_of number events) }
+    ensures none { (schemas : Schemas) (last : ℕ) (events : List RoomEvent) (number : ℕ)
+        → Legal schemas last events → list_any is_ping (events_of number events) ≡ false
+        → list_any is_pong (events_of number events) ≡ false }
 {}
