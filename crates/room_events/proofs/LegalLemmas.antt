@@ -41,7 +41,7 @@ module _ (schemas : Schemas) where
   unfolding Legal
   before last events more legal = begun (new_room last) events more legal
 
-  -- an event in a legal list can happen in the room that those before it leave, which are legal
+  -- an event in a legal list can happen in the room that those before it make, which are legal
   split : (room : Room) (events more : List RoomEvent) (event : RoomEvent) → AllHappen schemas room (events ++ event ∷ more) → CanHappen schemas (fold (room_after schemas) room events) event
   split room [] more event all = all.1.0
   split room (x ∷ xs) more event all = subst (λ r. CanHappen schemas (fold (room_after schemas) r xs) event) (sym all.1.1) (split all.0 xs more event all.2)

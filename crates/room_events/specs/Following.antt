@@ -22,7 +22,7 @@ use Rattle.sync_msgs.specs.declared.server_message.ServerMessage.TheVariants as 
 pub record Follower : Type 0 where
   -- the text under which it asks to be connected
   pub request : List ℕ
-  -- which records its schema admits, and the plan from that
+  -- which records its schema admits, and the plan from that, if the room takes it
   pub admits : List ℕ → Data → Bool
   pub plan : Plan
   -- the base that it had before, which it won't keep
@@ -69,19 +69,20 @@ abbrev pub first_replica : Follower → Replica
 first_replica client = record { base = client.base; pending = client.items }
 
 module _ (schemas : Schemas) where
-  -- an event is the client's own if it connects: it is under the client's request, says that no clock was reached, and tells a
-  -- schema from which no plan but the client's leads. The room may refuse that schema; and an event that is no connect is as it is
+  -- a connect is under the client's request, says that no clock was reached, and tells a schema from which no plan but the client's
+  -- leads: the room may also refuse it. Nothing is said of other events
   abbrev pub Asks : Follower → RoomEvent → Type 0
   Asks client (call.Message number (message.Connect request reached protocol versions) replied) =
       (reached ≡ negsuc 0) × ((plan : Plan) → schemas.plan_for versions ≡ Ok plan → plan ≡ client.plan) × (request ≡ client.request)
   Asks client event = Unit {0}
 
-  -- each of some events is so
+  -- the same of each of some events
   abbrev pub AllAsk : Follower → List RoomEvent → Type 0
   AllAsk client [] = Unit {0}
   AllAsk client (event ∷ events) = Asks client event × AllAsk client events
 
-  -- a client follows a session with some events: they are its messages, in order; and one at the room's schema admits what the room does
+  -- a client follows a session with some events: their messages are its own, in order; and one at the room's schema admits what the
+  -- room does
   pub record Follows (client : Follower) (mine : List RoomEvent) : Type 0 where
     pub asks : AllAsk client mine
     pub pushes : ArePushed client.items (pushes_of mine)

@@ -39,6 +39,6 @@ module _ (schemas : Schemas) where
   unfoldable pub Legal : ℕ → List RoomEvent → Type 0
   Legal last events = AllHappen (new_room last) events
 
-  -- such a room after a legal list of events
+  -- that room after the events of a legal list
   unfoldable pub state_of : ℕ → List RoomEvent → Room
   state_of last events = fold room_after (new_room last) events

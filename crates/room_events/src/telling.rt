@@ -46,6 +46,7 @@ pub fn told_in_order()
 /// presence of others alone; and pending are, of its items, all but as many of the first as the
 /// session has entries up to there (`has_base`). Schemas are lawful; the client's plan is that from
 /// its schema, if the room takes that; and a client at the room's schema admits what the room does.
+/// The items may be all that it will push on the session.
 pub fn clients_follow()
     ensures waits { (schemas : Schemas) (last : ℕ) (events : List RoomEvent) (number : ℕ)
         (client : Follower) → AreLawful schemas → Legal schemas last events
@@ -63,8 +64,9 @@ pub fn clients_follow()
 
 /// What such a client is given it expects: a snapshot only under its own request, and only one
 /// (`snapshots`); and the results in updates are those of the first items that are pending then, in
-/// order (`results`). It need be such a client only by the events before. That the clocks of
-/// updates don't fall is said by `told_in_order`.
+/// order (`results`). It need follow only by the events before, so its items may be those alone
+/// that it pushed by then. That the clocks of updates don't fall is said by `told_in_order`, and
+/// that no pong comes unasked by `no_pong_unasked`.
 pub fn replies_are_expected()
     ensures snapshots { (schemas : Schemas) (last : ℕ) (before after : List RoomEvent) (number : ℕ)
         (client : Follower) (told : ServerMessage) (request : List ℕ) → AreLawful schemas
