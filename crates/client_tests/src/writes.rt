@@ -69,11 +69,13 @@ fn writes(alloc: Global, notes: u32) -> Result<u64, Fail> {
     written(alloc, &mut client)
 }
 
+/// How many notes there are, and how often is written: each note is written back, one is patched, and the patches are replayed.
+const WRITES: [(u32, u64); 2] = [(400, 400 + 1 + 400), (1, 1 + 1 + 400)];
+
 #[test]
 fn writes_twice_for_each_pending_patch_at_most(rt: HostRuntime) -> Result<(), Fail> {
-    let alloc = rt.alloc();
-    // Each note is written back, one is patched, and the patches are replayed.
-    assert_eq!(rt; writes(alloc, 400)?, 400 + 1 + 400);
-    assert_eq!(rt; writes(alloc, 1)?, 1 + 1 + 400);
+    for (notes, wanted) in WRITES.iter() {
+        assert_eq!(rt; writes(rt.alloc(), *notes)?, *wanted);
+    }
     Ok(())
 }
