@@ -1,0 +1,2 @@
+pub mod ShakenLemmas
+pub mod WireLemmas

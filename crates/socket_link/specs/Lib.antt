@@ -1,0 +1,5 @@
+pub mod Links
+pub mod Reasons
+pub mod Sockets
+pub mod Wires
+pub mod Workers
