@@ -1,7 +1,7 @@
 -- A client that has caught up shows the room's document, in each world to which a recording's lines lead, and nobody has a view to tell.
 use Rattle.std.proofs.Common.{◌≡◌, ℕ, Bool, true, false, List, [], ◌∷◌, ◌++◌, Option, Some, None, Ok, refl, sym, ap, subst, ◌∙◌, inl, inr}
 use Rattle.std.specs.Prelude.{IfSome}
-use Rattle.room_model.specs.Schemas.{Schemas}
+use Rattle.room_model.specs.Schemas.{WorldSchemas}
 use Rattle.room_model.specs.Reachable.{made}
 use Rattle.room_model.specs.Rooms.{new_room}
 use Rattle.room_model.specs.Worlds.{show_line, shown_in}
@@ -34,7 +34,7 @@ the_next out more next last is = cc
 the_made : (outcome : Outcome EditFault) (a b : Stepped) → outcome ≡ Ok a → outcome ≡ Ok b → a ≡ b
 the_made outcome a b one other = cc
 
-happening_reaches : (trace : Bool) (schemas : Schemas EditFault) (viewed : Viewed) (e : RecordedEvent) (out : List PrintedLine) (next : Progress)
+happening_reaches : (trace : Bool) (schemas : WorldSchemas EditFault) (viewed : Viewed) (e : RecordedEvent) (out : List PrintedLine) (next : Progress)
     → Happens trace schemas viewed e (passed out next) → ReachableWorld schemas viewed.world → IsReached next
 happening_reaches trace schemas viewed e out next happens reached =
     let left = leaves schemas trace viewed e happens.0 happens.1 in

@@ -4,7 +4,7 @@ use Rattle.std.specs.Prelude.{slice_index}
 use Rattle.rand_pcg.specs.Lcg.{Lcg}
 use Rattle.room_link.specs.Held.{Extends}
 use Rattle.room_link.proofs.HeldLemmas.{Extends-nil, Extends-trans}
-use Rattle.room_model.specs.Schemas.{Schemas, doc}
+use Rattle.room_model.specs.Schemas.{WorldSchemas, doc}
 use Rattle.room_model.specs.Histories.{records_of}
 use Rattle.room_model.specs.Worlds as model
 use Rattle.room_model.specs.Worlds.{Stepped, Outcome, end_line, after_event}
@@ -68,7 +68,7 @@ module _ (print : Bool) where
   outcome_grows m e (Ok made) = (if_printed print (event_line e), taken_text m e made)
   outcome_grows m e (Err f) = whole_front m.text
 
-  module _ (schemas : Schemas EditFault) where
+  module _ (schemas : WorldSchemas EditFault) where
     pub events_grow : (events : List Event) (m : Making) → IsFront m.text (with_events print schemas m events).text
     events_grow [] m = whole_front m.text
     events_grow (e ∷ events) m =
@@ -227,7 +227,7 @@ module _ (print : Bool) where
           subst (λ x. IsMaking schemas x before old new) (sym (goes.same ∙ ap (λ n. with_draws print schemas n now goes.so_far) none)) goes.making
 
 -- a refusal leaves the world as it was
-pub refuses : (schemas : Schemas EditFault) (world : model.World) (outcome : Outcome EditFault) (f : StepFault EditFault) (after : World) → is_refusal f ≡ true
+pub refuses : (schemas : WorldSchemas EditFault) (world : model.World) (outcome : Outcome EditFault) (f : StepFault EditFault) (after : World) → is_refusal f ≡ true
     → Faults schemas world outcome f after → Refuses schemas world outcome f after
 refuses schemas world outcome fault.OutOfMemory after is faults = absurd (cc)
 refuses schemas world outcome f after is faults = faults
@@ -275,7 +275,7 @@ on_err (Err e) P Q f h = f h
 
 -- what is made by a seed, from the header on
 
-module _ (schemas : Schemas EditFault) (at : IsAtVersion 3 schemas) (seed size : ℕ) (print : Bool) where
+module _ (schemas : WorldSchemas EditFault) (at : IsAtVersion 3 schemas) (seed size : ℕ) (print : Bool) where
   abbrev pub begun : Making
   begun = with_events print schemas (nothing_made print) first_events
 
@@ -309,7 +309,7 @@ pub makes_nothing : (seed size : ℕ) (print : Bool) (held : Option (List ℕ)) 
 makes_nothing seed size print held = ([], inl refl, Extends-nil held)
 
 -- counts that begin anew
-pub anew : (schemas : Schemas EditFault) (m : Making) (before : code.Making) (old new : Option (List ℕ)) → IsMaking schemas m before old new
+pub anew : (schemas : WorldSchemas EditFault) (m : Making) (before : code.Making) (old new : Option (List ℕ)) → IsMaking schemas m before old new
     → IsMaking schemas (record m { taken = 0; refused = 0 }) (record before { taken = 0; refused = 0 }) old new
 anew schemas m before old new making =
     record { world = making.world; sessions = making.sessions; last = making.last; taken = refl; refused = refl; written = making.written }
@@ -319,13 +319,13 @@ anew schemas m before old new making =
 same_step : (outcome : Outcome EditFault) (a b : Stepped) → outcome ≡ Ok a → outcome ≡ Ok b → a ≡ b
 same_step outcome a b one other = cc
 
-pub said_at_end : (schemas : Schemas EditFault) (world : model.World) (lines : List OutLine) (made : Stepped) → lines ≡ made.lines
+pub said_at_end : (schemas : WorldSchemas EditFault) (world : model.World) (lines : List OutLine) (made : Stepped) → lines ≡ made.lines
     → after_event schemas false world event.End ≡ Ok made → lines ≡ end_line schemas world ∷ []
 said_at_end schemas world lines made are is =
     are ∙ ap (λ (s : Stepped). s.lines) (same_step (after_event schemas false world event.End) made (record { world = world; lines = end_line schemas world ∷ [] }) is refl)
 
-pub last_is : (schemas : Schemas EditFault) (size : ℕ) (print : Bool) (m : Making) (records refused taken : ℕ)
-    → records ≡ length (doc schemas (records_of m.world.room.history)) → refused ≡ m.refused → taken ≡ m.taken
+pub last_is : (schemas : WorldSchemas EditFault) (size : ℕ) (print : Bool) (m : Making) (records refused taken : ℕ)
+    → records ≡ length (doc schemas.room (records_of m.world.room.history)) → refused ≡ m.refused → taken ≡ m.taken
     → last_line_of print (length m.world.room.history) size records refused taken ≡ last_line schemas size print m
 last_is schemas size print m records refused taken same left took =
     λ i. last_line_of print (length m.world.room.history) size (same i) (left i) (took i)

@@ -14,7 +14,7 @@ use Rattle.rec_format.specs.declared.recorded.RecordedEvent.{RecordedEvent}
 use Rattle.rec_format.specs.declared.recorded.RecordedEvent.TheVariants as recorded
 use Rattle.fault_texts.specs.Texts.{line_fault_text, step_fault_text}
 use Rattle.side_effects.specs.declared.fault.EditFault.{EditFault}
-use Rattle.room_model.specs.Schemas.{Schemas}
+use Rattle.room_model.specs.Schemas.{WorldSchemas}
 use Rattle.room_model.specs.declared.event.Event.TheVariants as event
 use Rattle.room_model.specs.declared.event.Header.{Header}
 use Rattle.room_model.specs.declared.fault.StepFault.{StepFault}
@@ -38,7 +38,7 @@ pub playable : (e : RecordedEvent) → IsProperRecorded e → IsPlayable e
 playable (recorded.World (event.Client version)) proper = proper
 playable e proper = tt
 
-module _ (trace : Bool) (schemas : Schemas EditFault) (viewed : Viewed) (e : RecordedEvent) (code : ViewedWorld) where
+module _ (trace : Bool) (schemas : WorldSchemas EditFault) (viewed : Viewed) (e : RecordedEvent) (code : ViewedWorld) where
   -- it happened, and the recording goes on
   pub becomes_lines : (lines : Vec PrintedLine) → is_end e ≡ false → StepsTo schemas viewed (after_recorded schemas trace viewed e) (Ok lines) code → BecomesOf trace schemas viewed e (Wrote lines) (Some code)
   becomes_lines lines goes_on steps = (
@@ -67,7 +67,7 @@ module _ (trace : Bool) (schemas : Schemas EditFault) (viewed : Viewed) (e : Rec
 
 -- the header was read
 pub becomes_world : (line : List ℕ) (header : Header) (lines : Vec PrintedLine) (code : ViewedWorld) (next : Option ViewedWorld)
-    → IsHeader line header → (schemas : Schemas EditFault) × IsAtVersion header.version schemas × Stands schemas nothing_viewed code
+    → IsHeader line header → (schemas : WorldSchemas EditFault) × IsAtVersion header.version schemas × Stands schemas nothing_viewed code
     → lines.items ≡ [] → next ≡ Some code → BecomesHeader line (Wrote lines) next
 becomes_world line header lines code next is made none now = (
   passed [] (Some (made.0, nothing_viewed)),
@@ -81,12 +81,12 @@ pub becomes_no_world : (line : List ℕ) (f : LineFault) (text : List ℕ) (next
 becomes_no_world line f text next refuses is none = (refused text, (f, refuses, is), (refl, subst (Reads None) (sym none) tt))
 
 -- a later line is no event
-pub becomes_no_event : (trace : Bool) (schemas : Schemas EditFault) (viewed : Viewed) (line : List ℕ) (f : LineFault) (text : List ℕ) (code : ViewedWorld)
+pub becomes_no_event : (trace : Bool) (schemas : WorldSchemas EditFault) (viewed : Viewed) (line : List ℕ) (f : LineFault) (text : List ℕ) (code : ViewedWorld)
     → RefusesLine line f → line_fault_text f ≡ Some text → Stands schemas viewed code → BecomesEvent trace schemas viewed line (Refused text) (Some code)
 becomes_no_event trace schemas viewed line f text code refuses is stands = (refused text, inl (text, (f, refuses, is), refl), (refl, stands))
 
 -- a later line is an event
-pub becomes_event : (trace : Bool) (schemas : Schemas EditFault) (viewed : Viewed) (line : List ℕ) (e : RecordedEvent) (reply : Reply) (next : Option ViewedWorld)
+pub becomes_event : (trace : Bool) (schemas : WorldSchemas EditFault) (viewed : Viewed) (line : List ℕ) (e : RecordedEvent) (reply : Reply) (next : Option ViewedWorld)
     → IsEvent line e → BecomesOf trace schemas viewed e reply next → BecomesEvent trace schemas viewed line reply next
 becomes_event trace schemas viewed line e reply next is becomes = (becomes.0, inr (e, is, becomes.1), becomes.2)
 
@@ -106,7 +106,7 @@ becomes_header trace (Some (schemas, viewed)) line reply old next stays none rea
 -- a later one
 pub becomes_later : (trace : Bool) (progress : Progress) (line : List ℕ) (reply : Reply) (code : ViewedWorld) (next : Option ViewedWorld)
     → is_passed_by line ≡ false → Reads progress (Some code)
-    → ((schemas : Schemas EditFault) (viewed : Viewed) → Stands schemas viewed code → BecomesEvent trace schemas viewed line reply next)
+    → ((schemas : WorldSchemas EditFault) (viewed : Viewed) → Stands schemas viewed code → BecomesEvent trace schemas viewed line reply next)
     → Becomes trace progress line reply next
 becomes_later trace None line reply code next stays reads becomes = absurd reads
 becomes_later trace (Some (schemas, viewed)) line reply code next stays reads becomes =

@@ -2,7 +2,7 @@
 use Rattle.std.specs.Prelude.{◌≡◌, ℕ, List, [], ◌∷◌, ◌++◌, length, slice_get, Bool, Some, None}
 use Rattle.rooms_val.specs.Data.{Pairs}
 use Rattle.recording_lines.specs.Lines.{recorded_lines}
-use Rattle.room_model.specs.Schemas.{Schemas}
+use Rattle.room_model.specs.Schemas.{WorldSchemas}
 use Rattle.room_model.specs.Replicas.{Client, others}
 use Rattle.room_model.specs.Worlds.{World, map_val}
 use Rattle.rec_format.specs.declared.printed.PrintedLine.{PrintedLine}
@@ -21,7 +21,7 @@ Leads trace progress [] last = progress ≡ last
 Leads trace progress (line ∷ lines) last = (out : List PrintedLine) × (next : Progress) × Takes trace progress line (passed out next) × Leads trace next lines last
 
 -- what is printed is one line, by which the client shows the room's document, seen at its version; nobody has a view to tell
-abbrev pub ShowsTheRoom : Schemas EditFault → World → ℕ → Client → List PrintedLine → Type 0
+abbrev pub ShowsTheRoom : WorldSchemas EditFault → World → ℕ → Client → List PrintedLine → Type 0
 ShowsTheRoom schemas world number client out =
     (document : Pairs) × IsOfRoom schemas world client document
     × (out ≡ printed.World (line.Show number client.reached (map_val document) (map_val (others schemas world.room.history client)) (length client.pending)) ∷ [])
@@ -29,7 +29,7 @@ ShowsTheRoom schemas world number client out =
 -- in each world to which the first lines of a recording lead, a client that has caught up shows the room's document
 abbrev pub CaughtUpPrintTheRoom : Bool → List ℕ → Type 0
 CaughtUpPrintTheRoom trace recording =
-    (first rest : List (List ℕ)) (schemas : Schemas EditFault) (viewed : Viewed) (number : ℕ) (client : Client) (out : List PrintedLine) (next : Progress)
+    (first rest : List (List ℕ)) (schemas : WorldSchemas EditFault) (viewed : Viewed) (number : ℕ) (client : Client) (out : List PrintedLine) (next : Progress)
     → recorded_lines recording ≡ first ++ rest → Leads trace None first (Some (schemas, viewed))
     → slice_get viewed.world.clients number ≡ Some client → HasCaughtUp viewed.world client
     → Happens trace schemas viewed (recorded.World (event.Show number)) (passed out next) → ShowsTheRoom schemas viewed.world number client out

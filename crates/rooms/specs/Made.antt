@@ -2,7 +2,7 @@
 use Rattle.std.specs.Prelude.{◌≡◌, ℕ, zero, suc, ◌+◌, List, [], ◌∷◌, ◌++◌, length, slice_set, codes, decimal, Bool, false, if◌then◌else◌, Option, None, Some, Ok, Err, ◌⊎◌}
 use Rattle.rooms_val.specs.Json.{text_of}
 use Rattle.rand_pcg.specs.Lcg.{Lcg}
-use Rattle.room_model.specs.Schemas.{Schemas, doc}
+use Rattle.room_model.specs.Schemas.{WorldSchemas, doc}
 use Rattle.room_model.specs.Histories.{records_of}
 use Rattle.room_model.specs.Worlds.{World, Outcome, new_world, after_event}
 use Rattle.room_model.specs.declared.event.Event.{Event}
@@ -62,7 +62,7 @@ module _ (print : Bool) where
       after_asking (record m { text = m.text ++ if_printed print (event_line e); world = made.world; taken = m.taken + 1 }) (asking_client e)
   with_outcome m e (Err fault) = record m { refused = m.refused + 1 }
 
-  module _ (schemas : Schemas EditFault) where
+  module _ (schemas : WorldSchemas EditFault) where
     -- events come one after another
     abbrev pub with_events : Making → List Event → Making
     with_events m [] = m
@@ -89,18 +89,18 @@ abbrev pub last_line_of : Bool → ℕ → ℕ → ℕ → ℕ → ℕ → List 
 last_line_of print clock size records refused taken = if print then event_line event.End else written_line (summary_of clock size records refused taken)
 
 -- the same of a recording in the making, by its room's clock and how many records the document has
-abbrev pub last_line : Schemas EditFault → ℕ → Bool → Making → List ℕ
+abbrev pub last_line : WorldSchemas EditFault → ℕ → Bool → Making → List ℕ
 last_line schemas size print m =
     let history = m.world.room.history in
-    last_line_of print (length history) size (length (doc schemas (records_of history))) m.refused m.taken
+    last_line_of print (length history) size (length (doc schemas.room (records_of history))) m.refused m.taken
 
 -- what is written by a seed of so many draws
-abbrev pub made_text : Schemas EditFault → ℕ → ℕ → Bool → List ℕ
+abbrev pub made_text : WorldSchemas EditFault → ℕ → ℕ → Bool → List ℕ
 made_text schemas seed size print = let m = making_of print schemas seed size in m.text ++ last_line schemas size print m
 
 -- the same, where the room's schema is that of version 3
 abbrev pub IsMade : ℕ → ℕ → Bool → List ℕ → Type 0
-IsMade seed size print text = (schemas : Schemas EditFault) × IsAtVersion 3 schemas × (text ≡ made_text schemas seed size print)
+IsMade seed size print text = (schemas : WorldSchemas EditFault) × IsAtVersion 3 schemas × (text ≡ made_text schemas seed size print)
 
 -- a front of it
 abbrev pub IsMadeFront : ℕ → ℕ → Bool → List ℕ → Type 0

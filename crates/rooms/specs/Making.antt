@@ -1,7 +1,7 @@
 -- For which recording in the making the code's stands, and what may still happen to it.
 use Rattle.std.specs.Prelude.{◌≡◌, ◌<◌, ◌+◌, ◌^◌, ℕ, List, [], ◌∷◌, Bool, true, false, Option, slice_index}
 use Rattle.room_link.specs.Held.{Extends}
-use Rattle.room_model.specs.Schemas.{Schemas}
+use Rattle.room_model.specs.Schemas.{WorldSchemas}
 use Rattle.room_model.specs.declared.event.Event.{Event}
 use Rattle.room_model.specs.declared.fault.StepFault.{StepFault}
 use Rattle.room_model.specs.declared.fault.StepFault.TheVariants.{OutOfMemory}
@@ -14,7 +14,7 @@ use Rattle.rooms.specs.Replay.{IsFront}
 use Rattle.rooms.specs.declared.making.Making.{Making}
 
 -- the code's world, sessions and counts are those of a recording in the making, and what is written of it was added to a sink
-pub record IsMaking (schemas : Schemas EditFault) (m : made.Making) (code : Making) (old new : Option (List ℕ)) : Type 0 where
+pub record IsMaking (schemas : WorldSchemas EditFault) (m : made.Making) (code : Making) (old new : Option (List ℕ)) : Type 0 where
   pub world : Stands schemas m.world code.world
   pub sessions : code.sessions ≡ m.sessions
   pub last : code.last ≡ m.last

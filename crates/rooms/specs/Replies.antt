@@ -1,6 +1,6 @@
 -- What the code's replies to a line say.
 use Rattle.std.specs.Prelude.{◌≡◌, ℕ, List, Bool, Option, Some, None}
-use Rattle.room_model.specs.Schemas.{Schemas}
+use Rattle.room_model.specs.Schemas.{WorldSchemas}
 use Rattle.rec_format.specs.declared.recorded.RecordedEvent.{RecordedEvent}
 use Rattle.rooms.specs.Taking.{Progress, Taken, refused, passed, ended, Takes, TakesHeader, TakesEvent, Happens}
 use Rattle.rooms.specs.Texts.{lines_text, fault_line}
@@ -36,12 +36,12 @@ abbrev pub BecomesHeader : List ℕ → Reply → Option ViewedWorld → Type 0
 BecomesHeader line reply world = (taken : Taken) × TakesHeader line taken × Tells None taken reply world
 
 -- the same of a later one
-abbrev pub BecomesEvent : Bool → Schemas EditFault → Viewed → List ℕ → Reply → Option ViewedWorld → Type 0
+abbrev pub BecomesEvent : Bool → WorldSchemas EditFault → Viewed → List ℕ → Reply → Option ViewedWorld → Type 0
 BecomesEvent trace schemas viewed line reply world =
     (taken : Taken) × TakesEvent trace schemas viewed line taken × Tells (Some (schemas, viewed)) taken reply world
 
 -- the same of its event
-abbrev pub BecomesOf : Bool → Schemas EditFault → Viewed → RecordedEvent → Reply → Option ViewedWorld → Type 0
+abbrev pub BecomesOf : Bool → WorldSchemas EditFault → Viewed → RecordedEvent → Reply → Option ViewedWorld → Type 0
 BecomesOf trace schemas viewed e reply world =
     (taken : Taken) × Happens trace schemas viewed e taken × Tells (Some (schemas, viewed)) taken reply world
 

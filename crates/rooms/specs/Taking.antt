@@ -9,7 +9,7 @@ use Rattle.rec_format.specs.declared.recorded.RecordedEvent.{RecordedEvent}
 use Rattle.rec_format.specs.declared.recorded.RecordedEvent.TheVariants as recorded
 use Rattle.fault_texts.specs.Texts.{line_fault_text, step_fault_text}
 use Rattle.side_effects.specs.declared.fault.EditFault.{EditFault}
-use Rattle.room_model.specs.Schemas.{Schemas}
+use Rattle.room_model.specs.Schemas.{WorldSchemas}
 use Rattle.room_model.specs.declared.event.Event.TheVariants as event
 use Rattle.room_model.specs.declared.event.Header.{Header}
 use Rattle.room_model.specs.declared.fault.StepFault.{StepFault}
@@ -18,7 +18,7 @@ use Rattle.world_views.specs.Views.{Viewed, Stepped, nothing_viewed, after_recor
 
 -- how far a recording was read: before its header, or in this world with what its clients watch, of which these schemas decide
 abbrev pub Progress : Type 0
-Progress = Option (Schemas EditFault × Viewed)
+Progress = Option (WorldSchemas EditFault × Viewed)
 
 -- what becomes of a line: it is refused for a cause of this text; or it prints these lines and leaves this progress; or it prints them and
 -- ends the recording
@@ -33,7 +33,7 @@ is_end (recorded.World event.End) = true
 is_end other = false
 
 -- what becomes of an event in a world
-abbrev pub Happens : Bool → Schemas EditFault → Viewed → RecordedEvent → Taken → Type 0
+abbrev pub Happens : Bool → WorldSchemas EditFault → Viewed → RecordedEvent → Taken → Type 0
 Happens trace schemas viewed e (refused text) =
     (fault : StepFault EditFault) × (after_recorded schemas trace viewed e ≡ Err fault) × (step_fault_text fault ≡ Some text)
 Happens trace schemas viewed e (passed lines next) =
@@ -53,12 +53,12 @@ IsRefusedEvent line text = (fault : LineFault) × RefusesLine line fault × (lin
 abbrev pub TakesHeader : List ℕ → Taken → Type 0
 TakesHeader line (refused text) = IsRefusedHeader line text
 TakesHeader line (passed lines next) =
-    (header : Header) × (schemas : Schemas EditFault)
+    (header : Header) × (schemas : WorldSchemas EditFault)
     × IsHeader line header × IsAtVersion header.version schemas × (lines ≡ []) × (next ≡ Some (schemas, nothing_viewed))
 TakesHeader line (ended lines next) = ⊥
 
 -- each later line is an event, which happens in the world
-abbrev pub TakesEvent : Bool → Schemas EditFault → Viewed → List ℕ → Taken → Type 0
+abbrev pub TakesEvent : Bool → WorldSchemas EditFault → Viewed → List ℕ → Taken → Type 0
 TakesEvent trace schemas viewed line taken =
     ((text : List ℕ) × IsRefusedEvent line text × (taken ≡ refused text))
     ⊎ ((e : RecordedEvent) × IsEvent line e × Happens trace schemas viewed e taken)

@@ -1,7 +1,7 @@
 //! A recording that is made by a seed.
 ghost use Rattle.std.specs.Prelude.{◌≡◌, ◌+◌, ◌<◌, ◌≤◌, ◌*◌, ◌++◌, ◌⊎◌, ℕ, List, ◌∷◌, [], Option, length, IfOk, OnOk, OnErr, IsErrOf, pos};
 ghost use Rattle.rooms_val.specs.Data.{Pairs};
-ghost use Rattle.room_model.specs.Schemas.{Schemas};
+ghost use Rattle.room_model.specs.Schemas.{WorldSchemas};
 ghost use Rattle.room_model.specs.Worlds as model;
 ghost use Rattle.room_model.specs.Worlds.{map_val, end_line};
 ghost use Rattle.sync_world.specs.Standing.{Stands};
@@ -116,11 +116,11 @@ fn draw_all<K: Sink, L: Ledger>(
     steps: &mut Steps<L>,
 ) -> Result<(), Stop>
     requires { HasPlace (2 * size) making.old }
-    ensures ok { OnOk result ((schemas : Schemas EditFault) (m : made.Making)
+    ensures ok { OnOk result ((schemas : WorldSchemas EditFault) (m : made.Making)
         (old : Option (List ℕ)) → IsMaking schemas m making.old old (K.held sink.old)
         → IsMaking schemas (with_draws print schemas size maker m) making.new
         old (K.held sink.new)) }
-    ensures err { OnErr result ((schemas : Schemas EditFault) (m : made.Making)
+    ensures err { OnErr result ((schemas : WorldSchemas EditFault) (m : made.Making)
         (old : Option (List ℕ)) → IsMaking schemas m making.old old (K.held sink.old)
         → AddsFront (with_draws print schemas size maker m).text old (K.held sink.new)) }
     ensures faults_stay { K.faults sink.old ≤ K.faults sink.new }
@@ -143,10 +143,10 @@ fn end<K: Sink, L: Ledger>(
     sink: &mut K,
     steps: &mut Steps<L>,
 ) -> Result<(), Stop>
-    ensures ok { OnOk result ((schemas : Schemas EditFault) (m : made.Making)
+    ensures ok { OnOk result ((schemas : WorldSchemas EditFault) (m : made.Making)
         (old : Option (List ℕ)) → IsMaking schemas m making old (K.held sink.old)
         → Extends old (K.held sink.new) (m.text ++ last_line schemas size print m)) }
-    ensures err { OnErr result ((schemas : Schemas EditFault) (m : made.Making)
+    ensures err { OnErr result ((schemas : WorldSchemas EditFault) (m : made.Making)
         (old : Option (List ℕ)) → IsMaking schemas m making old (K.held sink.old)
         → AddsFront (m.text ++ last_line schemas size print m) old (K.held sink.new)) }
     ensures faults_stay { K.faults sink.old ≤ K.faults sink.new }
@@ -165,7 +165,7 @@ fn end<K: Sink, L: Ledger>(
 
 // What the room says at the end. A world refuses an end only for want of memory.
 fn end_lines<L: Ledger>(alloc: Global, world: &mut World, steps: &mut Steps<L>) -> Mem<Vec<OutLine>>
-    ensures { IfOk result (λ lines. (schemas : Schemas EditFault) (model : model.World)
+    ensures { IfOk result (λ lines. (schemas : WorldSchemas EditFault) (model : model.World)
         → Stands schemas model world.old → lines.items ≡ end_line schemas model ∷ []) }
 {
     match world.step(alloc, Event::End, false, steps) {

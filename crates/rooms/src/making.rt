@@ -1,6 +1,6 @@
 //! A recording that is made: its events happen as they are drawn, and are printed if that is asked.
 ghost use Rattle.std.specs.Prelude.{◌≡◌, Bool, true, false, ◌+◌, ◌<◌, ◌≤◌, ◌^◌, ℕ, List, Option, length, Some, slice_set, IfOk, OnOk, OnErr, IsErrOf};
-ghost use Rattle.room_model.specs.Schemas.{Schemas};
+ghost use Rattle.room_model.specs.Schemas.{WorldSchemas};
 ghost use Rattle.room_model.specs.Worlds.{after_event};
 ghost use Rattle.rec_format.specs.Printing.{IsPrintable};
 ghost use Rattle.side_effects.specs.declared.fault.EditFault.{EditFault};
@@ -42,7 +42,7 @@ pub(crate) struct Making {
 impl Making {
     /// Nothing happened. It costs the schema.
     pub(crate) fn new(alloc: Global) -> Mem<Making>
-        ensures stands { IfOk result (λ making. (schemas : Schemas EditFault)
+        ensures stands { IfOk result (λ making. (schemas : WorldSchemas EditFault)
             × (IsAtVersion 3 schemas) × ((print : Bool) (old new : Option (List ℕ))
             → Extends old new (if_printed print header_line)
             → IsMaking schemas (nothing_made print) making old new)) }
@@ -83,13 +83,13 @@ impl Making {
     ) -> Result<(), Stop>
         requires ready { AreReady events.items }
         requires place { HasPlace (length events.items) self.old }
-        ensures ok { OnOk result ((schemas : Schemas EditFault) (m : made.Making)
+        ensures ok { OnOk result ((schemas : WorldSchemas EditFault) (m : made.Making)
             (old : Option (List ℕ)) → IsMaking schemas m self.old old (K.held sink.old)
             → IsMaking schemas (with_events print schemas m events.items) self.new
             old (K.held sink.new)) }
         ensures place { OnOk result ((more : ℕ) → HasPlace (length events.items + more) self.old
             → HasPlace more self.new) }
-        ensures err { OnErr result ((schemas : Schemas EditFault) (m : made.Making)
+        ensures err { OnErr result ((schemas : WorldSchemas EditFault) (m : made.Making)
             (old : Option (List ℕ)) → IsMaking schemas m self.old old (K.held sink.old)
             → AddsFront (with_events print schemas m events.items).text old (K.held sink.new)) }
         ensures faults_stay { K.faults sink.old ≤ K.faults sink.new }
@@ -114,13 +114,13 @@ impl Making {
     ) -> Result<(), Stop>
         requires ready { IsReady event }
         requires place { HasPlace 1 self.old }
-        ensures ok { OnOk result ((schemas : Schemas EditFault) (m : made.Making)
+        ensures ok { OnOk result ((schemas : WorldSchemas EditFault) (m : made.Making)
             (old : Option (List ℕ)) → IsMaking schemas m self.old old (K.held sink.old)
             → IsMaking schemas (with_outcome print m event (after_event schemas false m.world event))
             self.new old (K.held sink.new)) }
         ensures place { OnOk result ((more : ℕ) → HasPlace (1 + more) self.old
             → HasPlace more self.new) }
-        ensures err { OnErr result ((schemas : Schemas EditFault) (m : made.Making)
+        ensures err { OnErr result ((schemas : WorldSchemas EditFault) (m : made.Making)
             (old : Option (List ℕ)) → IsMaking schemas m self.old old (K.held sink.old)
             → AddsFront (with_outcome print m event (after_event schemas false m.world event)).text
             old (K.held sink.new)) }

@@ -1,6 +1,6 @@
 //! A recording that is taken line by line.
 ghost use Rattle.std.specs.Prelude.{◌≡◌, None, Some, IfOk};
-ghost use Rattle.room_model.specs.Schemas.{Schemas};
+ghost use Rattle.room_model.specs.Schemas.{WorldSchemas};
 ghost use Rattle.side_effects.specs.declared.fault.EditFault.{EditFault};
 ghost use Rattle.world_views.specs.Standing.{Stands, IsPlayable};
 ghost use Rattle.world_views.specs.Views.{Viewed};
@@ -98,7 +98,7 @@ fn take_event<L: Ledger>(
     line: &[u8],
     steps: &mut Steps<L>,
 ) -> Mem<Reply>
-    ensures { IfOk result (λ reply. (schemas : Schemas EditFault) (viewed : Viewed)
+    ensures { IfOk result (λ reply. (schemas : WorldSchemas EditFault) (viewed : Viewed)
         → Stands schemas viewed world.old
         → BecomesEvent trace schemas viewed line.now reply (Some world.new)) }
 {
@@ -117,7 +117,7 @@ fn happen<L: Ledger>(
     steps: &mut Steps<L>,
 ) -> Mem<Reply>
     requires { IsPlayable event }
-    ensures { IfOk result (λ reply. (schemas : Schemas EditFault) (viewed : Viewed)
+    ensures { IfOk result (λ reply. (schemas : WorldSchemas EditFault) (viewed : Viewed)
         → Stands schemas viewed world.old
         → BecomesOf trace schemas viewed event reply (Some world.new)) }
 {

@@ -1,5 +1,5 @@
 use Rattle.std.proofs.Common.{ℕ, ◌*◌, ◌-◌, ◌≤◌, List, Option}
-use Rattle.room_model.specs.Schemas.{Schemas}
+use Rattle.room_model.specs.Schemas.{WorldSchemas}
 use Rattle.side_effects.specs.declared.fault.EditFault.{EditFault}
 use Rattle.rooms.specs.Made as made
 use Rattle.rooms.specs.Making.{IsMaking, HasPlace}
@@ -11,7 +11,7 @@ abbrev pub invariant-draws : goal.invariant-draws
 invariant-draws g l =
     let held = g.K.Sink.held in
     record {
-      goes : (schemas : Schemas EditFault) (m : made.Making) (old : Option (List ℕ)) → IsMaking schemas m l.fn.making old (held l.fn.sink)
+      goes : (schemas : WorldSchemas EditFault) (m : made.Making) (old : Option (List ℕ)) → IsMaking schemas m l.fn.making old (held l.fn.sink)
           → Draws l.print schemas m l.size l.fn.maker l.making (l.size - l.counter) l.maker old (held l.sink);
       place : HasPlace (2 * (l.size - l.counter)) l.making;
       faults : g.K.Sink.faults l.fn.sink ≤ g.K.Sink.faults l.sink;

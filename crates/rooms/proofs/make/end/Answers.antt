@@ -30,7 +30,7 @@ returns-in_err-write_all-clause-err g c =
     let took = c.in_err-write_all.ensures.front in
     rw p.1 (λ schemas m old making.
     let history = m.world.room.history in
-    let said = c.closing_of.ensures (length history) (doc schemas (records_of history)) (pres schemas (records_of history))
+    let said = c.closing_of.ensures (length history) (doc schemas.room (records_of history)) (pres schemas.room (records_of history))
     (c.deref.ensures.value ∙ c.in_ok-lines.ensures schemas m.world making.world) in
     let line = c.deref-2.ensures.value ∙ c.in_ok-line.ensures
     ∙ ap (λ n. last_line_of c.args.print n c.args.size c.closing_of.result.records c.args.making.refused c.args.making.taken) said.0
@@ -43,7 +43,7 @@ pub returns-clause-ok : goal.returns-clause-ok
 returns-clause-ok g c = λ schemas m old making.
     let held = g.K.Sink.held in
     let history = m.world.room.history in
-    let said = c.closing_of.ensures (length history) (doc schemas (records_of history)) (pres schemas (records_of history))
+    let said = c.closing_of.ensures (length history) (doc schemas.room (records_of history)) (pres schemas.room (records_of history))
     (c.deref.ensures.value ∙ c.in_ok-lines.ensures schemas m.world making.world) in
     let line = c.deref-2.ensures.value ∙ c.in_ok-line.ensures
     ∙ ap (λ n. last_line_of c.args.print n c.args.size c.closing_of.result.records c.args.making.refused c.args.making.taken) said.0

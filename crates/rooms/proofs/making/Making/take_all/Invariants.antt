@@ -1,5 +1,5 @@
 use Rattle.std.proofs.Common.{ℕ, ◌+◌, ◌≤◌, List, length, Option}
-use Rattle.room_model.specs.Schemas.{Schemas}
+use Rattle.room_model.specs.Schemas.{WorldSchemas}
 use Rattle.side_effects.specs.declared.fault.EditFault.{EditFault}
 use Rattle.rooms.specs.Made as made
 use Rattle.rooms.specs.Making.{IsMaking, HasPlace, AreReady}
@@ -12,7 +12,7 @@ invariant-events g l =
     let held = g.K.Sink.held in
     let left = l.event-iterator.rest.items in
     record {
-      goes : (schemas : Schemas EditFault) (m : made.Making) (old : Option (List ℕ)) → IsMaking schemas m l.fn.self old (held l.fn.sink)
+      goes : (schemas : WorldSchemas EditFault) (m : made.Making) (old : Option (List ℕ)) → IsMaking schemas m l.fn.self old (held l.fn.sink)
           → Goes l.print schemas m l.fn.events.items l.self left old (held l.sink);
       ready : AreReady left;
       place : (more : ℕ) → HasPlace (length l.fn.events.items + more) l.fn.self → HasPlace (length left + more) l.self;
