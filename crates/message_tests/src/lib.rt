@@ -6,6 +6,10 @@ mod made;
 #[cfg(test)]
 mod messages;
 #[cfg(test)]
+mod printed;
+#[cfg(test)]
 mod recordings;
+#[cfg(test)]
+mod tables;
 #[cfg(test)]
 mod views;

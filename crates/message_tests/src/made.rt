@@ -1,15 +1,17 @@
 //! Made recordings as lines, against lines that were made elsewhere by the published algorithm of the generator.
-use field_ops::RecordOp;
+use field_ops::{Diff, RecordOp};
 use load_maker::Maker;
 use rec_format::{Event, print_event};
+use schema_core::Schema;
 use std::alloc::Global;
+use std::process::Abort;
 use std::test::Fail;
 use tl_tables::schema_at;
 
-/// The last session of each client.
+// The last session of each client.
 const LAST: [u64; 4] = [9, 7, 8, 5];
 
-/// The events before the draws.
+// The events before the draws.
 const FIRST: &str = r#"
 {"do":"client","version":3}
 {"do":"client","version":3}
@@ -43,7 +45,7 @@ const FIRST: &str = r#"
 {"client":3,"do":"deliver"}
 "#;
 
-/// The events of the first 50 draws by the seed 7, among which each kind stands.
+// The events of the first 50 draws by the seed 7, among which each kind stands.
 const BY_7: &str = r#"
 {"client":1,"do":"presence","record":{"color":"red","currentPageId":"page:p","cursor":{"x":285,"y":0},"id":"instance_presence:me","meta":{},"selectedShapeIds":[],"typeName":"instance_presence","userName":"c1"}}
 {"client":0,"diff":{"shape:s43":["put",{"id":"shape:s43","index":"a1","isLocked":false,"meta":{},"opacity":100,"parentId":"page:p","props":{"color":"black","dash":"draw","fill":"none","geo":"rectangle","h":10,"size":"m","text":"","w":10},"rotation":0,"type":"geo","typeName":"shape","x":468,"y":0}]},"do":"edit"}
@@ -100,7 +102,7 @@ const BY_7: &str = r#"
 {"client":1,"do":"mark","name":"m"}
 "#;
 
-/// The events of the first 4 draws by the seed 2^32 + 7.
+// The events of the first 4 draws by the seed 2^32 + 7.
 const BY_A_LONGER_SEED: &str = r#"
 {"client":0,"diff":{"shape:s35":["remove"]},"do":"edit"}
 {"client":1,"diff":{"shape:s23":["patch",{"x":["put",513]}]},"do":"edit"}
@@ -108,7 +110,35 @@ const BY_A_LONGER_SEED: &str = r#"
 {"client":3,"diff":{"shape:s1":["put",{"alpha":10,"id":"shape:s1","index":"a1","isLocked":false,"meta":{},"parentId":"page:p","props":{"color":"black","fill":"none","geo":"rectangle","h":10,"size":"m","text":"","w":10},"rotation":0,"type":"geo","typeName":"shape","x":448,"y":0}]},"do":"edit"}
 "#;
 
-/// Adds the line of each event.
+// A made recording, or the events before the draws where there are none.
+struct Recording {
+    // The seed.
+    seed: u64,
+    // How many draws it has.
+    draws: u32,
+    // The lines of their events.
+    lines: &'static str,
+}
+
+const RECORDINGS: [Recording; 3] = [
+    Recording {
+        seed: 7,
+        draws: 0,
+        lines: FIRST,
+    },
+    Recording {
+        seed: 7,
+        draws: 50,
+        lines: BY_7,
+    },
+    Recording {
+        seed: 4_294_967_303,
+        draws: 4,
+        lines: BY_A_LONGER_SEED,
+    },
+];
+
+// Adds the line of each event.
 fn add_lines(alloc: Global, lines: &mut String, events: &[Event]) -> Result<(), Fail> {
     for event in events {
         let line = String::from_utf8(print_event(alloc, event)?)?;
@@ -118,65 +148,77 @@ fn add_lines(alloc: Global, lines: &mut String, events: &[Event]) -> Result<(), 
     Ok(())
 }
 
-/// The lines of so many draws by a seed.
-fn drawn(alloc: Global, seed: u64, count: usize) -> Result<String, Fail> {
+// Adds the lines of the next draw.
+fn add_draw(alloc: Global, lines: &mut String, maker: &mut Maker) -> Result<(), Fail> {
+    let events = maker.draw(alloc, &LAST)?;
+    add_lines(alloc, lines, &events)
+}
+
+// The lines of so many draws by a seed, or those before the draws.
+fn lines_of(alloc: Global, seed: u64, draws: u32) -> Result<String, Fail> {
     let mut maker = Maker::new(seed);
     let mut lines = String::from_str(alloc, "\n")?;
-    for _ in 0..count {
-        let events = maker.draw(alloc, &LAST)?;
-        add_lines(alloc, &mut lines, &events)?;
+    if draws == 0 {
+        add_lines(alloc, &mut lines, &maker.first(alloc)?)?;
+    }
+    for _ in 0..draws {
+        add_draw(alloc, &mut lines, &mut maker)?;
     }
     Ok(lines)
 }
 
-#[test]
-fn begins_with_four_clients_and_a_page(rt: HostRuntime) -> Result<(), Fail> {
-    let alloc = rt.alloc();
-    let mut lines = String::from_str(alloc, "\n")?;
-    add_lines(alloc, &mut lines, &Maker::new(7).first(alloc)?)?;
-    assert_eq!(rt; lines.as_str(), FIRST);
+// Asserts that recordings are made as a table has them.
+fn makes(rt: &impl Abort, alloc: Global, table: &[Recording]) -> Result<(), Fail> {
+    for row in table {
+        let found = lines_of(alloc, row.seed, row.draws)?;
+        assert_eq!(rt; found.as_str(), row.lines);
+    }
     Ok(())
 }
 
 #[test]
-fn draws_by_a_seed(rt: HostRuntime) -> Result<(), Fail> {
-    let lines = drawn(rt.alloc(), 7, 50)?;
-    assert_eq!(rt; lines.as_str(), BY_7);
-    Ok(())
+fn makes_the_lines_of_each_seed(rt: HostRuntime) -> Result<(), Fail> {
+    makes(&rt, rt.alloc(), &RECORDINGS)
 }
 
-#[test]
-fn draws_by_the_whole_seed(rt: HostRuntime) -> Result<(), Fail> {
-    let lines = drawn(rt.alloc(), 4_294_967_303, 4)?;
-    assert_eq!(rt; lines.as_str(), BY_A_LONGER_SEED);
-    Ok(())
-}
+// How many draws by the seed 7 there are, and how many records are put by them and before them.
+const COUNTS: [(u32, u32); 2] = [(0, 1), (50, 14)];
 
-/// How many records events put at clients of a version. Each of them has to be admitted there.
+// How many records events put at clients of a version. Each of them has to be admitted there.
 fn admitted(alloc: Global, version: u32, events: &[Event]) -> Result<u32, Fail> {
     let schema = schema_at(alloc, version)?;
     let mut count = 0u32;
     for event in events {
-        match event {
-            Event::Edit { diff, .. } => {
-                for (id, op) in diff.as_slice() {
-                    if let RecordOp::Put(record) = op {
-                        schema.admits(id.as_str(), record)?;
-                        count = count.saturating_add(1);
-                    }
-                }
-            }
-            Event::Presence { record_, .. } => {
-                schema.admits("instance_presence:me", record_)?;
-                count = count.saturating_add(1);
-            }
-            _ => {}
+        count = count.saturating_add(admitted_of(&schema, event)?);
+    }
+    Ok(count)
+}
+
+// How many records an event puts. Each of them has to be admitted.
+fn admitted_of(schema: &Schema, event: &Event) -> Result<u32, Fail> {
+    match event {
+        Event::Edit { diff, .. } => admitted_in(schema, diff),
+        Event::Presence { record_, .. } => {
+            schema.admits("instance_presence:me", record_)?;
+            Ok(1)
+        }
+        _ => Ok(0),
+    }
+}
+
+// How many records a diff puts. Each of them has to be admitted.
+fn admitted_in(schema: &Schema, diff: &Diff) -> Result<u32, Fail> {
+    let mut count = 0u32;
+    for (id, op) in diff.as_slice() {
+        if let RecordOp::Put(record) = op {
+            schema.admits(id.as_str(), record)?;
+            count = count.saturating_add(1);
         }
     }
     Ok(count)
 }
 
-/// The version of the client of an edit or a presence, and 3 for other events.
+// The version of the client of an edit or a presence, and 3 for other events.
 fn version_of(event: &Event) -> u32 {
     match event {
         Event::Edit { client, .. } | Event::Presence { client, .. } => match client {
@@ -188,17 +230,32 @@ fn version_of(event: &Event) -> u32 {
     }
 }
 
+// How many records the next draw puts.
+fn admitted_by(alloc: Global, maker: &mut Maker) -> Result<u32, Fail> {
+    let events = maker.draw(alloc, &LAST)?;
+    let version = events.first().map_or(3, version_of);
+    admitted(alloc, version, &events)
+}
+
+// How many records are put by so many draws, and before them.
+fn count_put(alloc: Global, seed: u64, draws: u32) -> Result<u32, Fail> {
+    let mut maker = Maker::new(seed);
+    let mut count = admitted(alloc, 3, &maker.first(alloc)?)?;
+    for _ in 0..draws {
+        count = count.saturating_add(admitted_by(alloc, &mut maker)?);
+    }
+    Ok(count)
+}
+
+// Asserts that as many records are put as a table has.
+fn puts(rt: &impl Abort, alloc: Global, table: &[(u32, u32)]) -> Result<(), Fail> {
+    for (draws, count) in table {
+        assert_eq!(rt; count_put(alloc, 7, *draws)?, *count, "by {draws}");
+    }
+    Ok(())
+}
+
 #[test]
 fn puts_records_that_the_clients_version_admits(rt: HostRuntime) -> Result<(), Fail> {
-    let alloc = rt.alloc();
-    let mut maker = Maker::new(7);
-    let mut count = admitted(alloc, 3, &maker.first(alloc)?)?;
-    assert_eq!(rt; count, 1);
-    for _ in 0..50u32 {
-        let events = maker.draw(alloc, &LAST)?;
-        let version = events.first().map_or(3, version_of);
-        count = count.saturating_add(admitted(alloc, version, &events)?);
-    }
-    assert_eq!(rt; count, 14);
-    Ok(())
+    puts(&rt, rt.alloc(), &COUNTS)
 }

@@ -1,88 +1,57 @@
-//! That messages and events are copied where memory is ample. What the copies hold is proved.
-use case_tables::value;
-use field_ops::{Diff, RecordOp, read_diff};
-use migrate_seq::Serialized;
-use rooms_val::Text;
+//! That messages are copied where memory is ample. What the copies hold is proved.
+use crate::tables::{Reading, plays};
+use rec_format::reason_text;
 use std::alloc::Global;
-use std::process::Abort;
 use std::test::Fail;
-use sync_msgs::{
-    Action, ClientMessage, DataEvent, EndReason, Events, Hydration, Out, ServerMessage,
-};
+use sync_msgs::{EndReason, Out};
+use wire_msgs::{Message, read_client, read_server};
 
-/// A diff with one operation.
-fn diff(alloc: Global) -> Result<Diff, Fail> {
-    let val = value(alloc, r#"{"page:a":["put",{"id":"page:a"}]}"#)?;
-    Ok(read_diff(alloc, &val)?)
+// A message of a client of each form.
+const CLIENTS: &str = r#"
+{"connectRequestId":"7","lastServerClock":-1,"protocolVersion":1,"schema":{"schemaVersion":2,"sequences":{"rooms.base":1}},"type":"connect"}
+{"clientClock":1,"diff":{"page:a":["put",{"id":"page:a"}]},"presence":["put",{}],"type":"push"}
+{"type":"ping"}
+"#;
+
+// What a room sends, in each form: a message, with an event of each form, or why it ends a session.
+const ROOMS: &str = r#"
+{"connectRequestId":"7","diff":{"page:a":["put",{"id":"page:a"}]},"hydrationType":"wipe_presence","isReadonly":true,"protocolVersion":1,"schema":{"schemaVersion":2,"sequences":{"rooms.base":1}},"serverClock":3,"type":"connect"}
+{"type":"pong"}
+{"data":[{"diff":{"page:a":["put",{"id":"page:a"}]},"serverClock":4,"type":"patch"},{"action":"commit","clientClock":1,"serverClock":5,"type":"push_result"},{"action":"discard","clientClock":2,"serverClock":5,"type":"push_result"},{"action":{"rebaseWithDiff":{"page:a":["put",{"id":"page:a"}]}},"clientClock":3,"serverClock":5,"type":"push_result"}],"type":"data"}
+SLOW
+"#;
+
+// The text of a copy of a client's message.
+pub(crate) fn client_copy(alloc: Global, text: &str) -> Result<String, Fail> {
+    let message = read_client(alloc, text.as_bytes())?;
+    let copied = message.copy(alloc)?;
+    Ok(String::from_utf8(copied.print(alloc)?)?)
 }
 
-/// A schema with one sequence.
-fn schema(alloc: Global) -> Result<Serialized, Fail> {
-    let mut schema = Serialized::new(alloc);
-    schema.put(Text::of(alloc, "rooms.base")?, 1)?;
-    Ok(schema)
+// The text of a copy of what a room sends.
+pub(crate) fn out_copy(alloc: Global, text: &str) -> Result<String, Fail> {
+    let copied = out_of(alloc, text)?.copy(alloc)?;
+    match &copied {
+        Out::Message(message) => Ok(String::from_utf8(message.print(alloc)?)?),
+        Out::End(reason) => Ok(String::from_str(alloc, reason_text(*reason))?),
+    }
+}
+
+// What a room sends, by its text; a message is a copy.
+fn out_of(alloc: Global, text: &str) -> Result<Out, Fail> {
+    if text == "SLOW" {
+        return Ok(Out::End(EndReason::Slow));
+    }
+    let message = read_server(alloc, text.as_bytes())?;
+    Ok(Out::Message(message.copy(alloc)?))
 }
 
 #[test]
 fn copies_messages_of_clients(rt: HostRuntime) -> Result<(), Fail> {
-    let alloc = rt.alloc();
-    let connect = ClientMessage::Connect {
-        connect_request_id: Text::of(alloc, "7")?,
-        last_server_clock: -1,
-        protocol_version: 1,
-        schema: schema(alloc)?,
-    };
-    let push = ClientMessage::Push {
-        client_clock: 1,
-        diff: Some(diff(alloc)?),
-        presence: Some(RecordOp::Put(value(alloc, "{}")?)),
-    };
-    drop(connect.copy(alloc)?);
-    drop(push.copy(alloc)?);
-    drop(ClientMessage::Ping.copy(alloc)?);
-    Ok(())
+    plays(&rt, rt.alloc(), Reading::ClientCopy, &[CLIENTS])
 }
 
 #[test]
-fn copies_messages_of_rooms(rt: HostRuntime) -> Result<(), Fail> {
-    let alloc = rt.alloc();
-    let connect = ServerMessage::Connect {
-        hydration_type: Hydration::WipePresence,
-        connect_request_id: Text::of(alloc, "7")?,
-        protocol_version: 1,
-        schema: schema(alloc)?,
-        diff: diff(alloc)?,
-        server_clock: 3,
-        is_readonly: true,
-    };
-    drop(Out::Message(connect).copy(alloc)?);
-    drop(Out::Message(ServerMessage::Pong).copy(alloc)?);
-    drop(Out::End(EndReason::Slow).copy(alloc)?);
-    let mut events = Events::new(alloc);
-    events.push(DataEvent::Patch {
-        diff: diff(alloc)?,
-        server_clock: 4,
-    })?;
-    events.push(result(1, Action::Commit))?;
-    events.push(result(2, Action::Discard))?;
-    events.push(result(3, Action::Rebase(diff(alloc)?)))?;
-    copies(&rt, alloc, &ServerMessage::Data { events })
-}
-
-/// The result of a push.
-fn result(client_clock: i64, action: Action) -> DataEvent {
-    DataEvent::PushResult {
-        client_clock,
-        server_clock: 5,
-        action,
-    }
-}
-
-/// Asserts how many events a copy of a message has.
-fn copies(rt: &impl Abort, alloc: Global, updates: &ServerMessage) -> Result<(), Fail> {
-    match updates.copy(alloc)? {
-        ServerMessage::Data { events } => assert_eq!(rt; events.as_slice().len(), 4),
-        _ => return Err(Fail::from("events were wanted")),
-    }
-    Ok(())
+fn copies_what_rooms_send(rt: HostRuntime) -> Result<(), Fail> {
+    plays(&rt, rt.alloc(), Reading::OutCopy, &[ROOMS])
 }

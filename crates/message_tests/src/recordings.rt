@@ -1,18 +1,11 @@
-//! The lines of recordings: headers, events and what is printed, by tables.
-use rec_format::{
-    IdList, LineFault, OutLine, PrintedLine, RecordedEvent, print_line, print_out, print_recorded,
-    read_header, read_line,
-};
-use rooms_val::{Text, Val, ValFault};
+//! The lines of recordings: what events and headers are read as, and which lines are none.
+use crate::tables::{Reading, plays};
+use rec_format::{LineFault, print_recorded, read_header, read_line};
+use rooms_val::{Mem, ValFault};
 use std::alloc::Global;
-use std::process::Abort;
 use std::test::Fail;
-use sync_msgs::EndReason;
 
-/// How many bytes a line may have.
-const LONGEST: usize = 1_048_576;
-
-/// A line of each form of event, as it is printed.
+// A line of each form of event, as it is printed.
 const EVENTS: &str = r#"
 {"do":"client","version":1}
 {"do":"client","version":2}
@@ -42,7 +35,7 @@ const EVENTS: &str = r#"
 {"do":"end"}
 "#;
 
-/// Events as they are printed, each before another line that stands for it.
+// Events as they are printed, each before another line that stands for it.
 const WRITTEN_OTHERWISE: &str = r#"
 {"client":7,"do":"connect","readonly":true} |  { "readonly" :true, "do":"connect","client":7}
 {"do":"end"} | {"do":"show","do":"end"}
@@ -51,14 +44,7 @@ const WRITTEN_OTHERWISE: &str = r#"
 {"client":1,"do":"query","type":"page","where":["or",[]]} | {"where":[ "or" ,[ ]],"type":"page","do":"query","client":1}
 "#;
 
-/// Headers, each after its version.
-const HEADERS: &str = r#"
-1 | {"recording":1,"version":1}
-2 | {"recording":1,"version":2}
-3 |  { "version":3,"recording":1 }
-"#;
-
-/// Lines that are no event, each after the fault that is answered.
+// Lines that are no event, each after the fault that is answered.
 const REFUSED: &str = r#"
 NotWhole | {"client":1.5,"do":"show"}
 NotWhole | {"client":1e2,"do":"show"}
@@ -167,7 +153,14 @@ Field | {"client":0,"do":"end"}
 Field | {"do":"end","end":true}
 "#;
 
-/// Lines that are no header, each after the fault that is answered.
+// Headers, each after its version.
+const HEADERS: &str = r#"
+1 | {"recording":1,"version":1}
+2 | {"recording":1,"version":2}
+3 |  { "version":3,"recording":1 }
+"#;
+
+// Lines that are no header, each after the fault that is answered.
 const NO_HEADERS: &str = r#"
 NoHeader | {}
 NoHeader | []
@@ -190,7 +183,16 @@ NotWhole | {"recording":1,"version":3.0}
 OutOfRange | {"recording":1,"version":9007199254740992}
 "#;
 
-/// The name of a fault.
+// Lines of their lengths, each after its length, and what it is as an event and as a header: `none` where it isn't refused.
+// The longest line has 1,048,576 bytes.
+const SIZED: &str = r#"
+128 Field NoHeader | nested 64
+130 TooDeep TooDeep | nested 65
+1048576 none NoHeader | padded 1048564 0
+1048577 LineTooLong LineTooLong | padded 1048564 1
+"#;
+
+// The name of a fault.
 fn name_of(fault: LineFault) -> &'static str {
     match fault {
         LineFault::LineTooLong => "LineTooLong",
@@ -206,7 +208,31 @@ fn name_of(fault: LineFault) -> &'static str {
     }
 }
 
-/// The name of what a line is refused for as an event.
+// The event of a line as it is printed, or the name of the line's fault.
+pub(crate) fn event_text(alloc: Global, line: &str) -> Result<String, Fail> {
+    match read_line(alloc, line.as_bytes()) {
+        Ok(event) => Ok(String::from_utf8(print_recorded(alloc, &event)?)?),
+        Err(fault) => Ok(String::from_str(alloc, name_of(fault))?),
+    }
+}
+
+// The version of a header, or the name of the line's fault.
+pub(crate) fn header_text(alloc: Global, line: &str) -> Result<String, Fail> {
+    match read_header(alloc, line.as_bytes()) {
+        Ok(header) => Ok(format!(in alloc; "{}", header.version)?),
+        Err(fault) => Ok(String::from_str(alloc, name_of(fault))?),
+    }
+}
+
+// The length of a line, and the names of what it is refused for as an event and as a header.
+pub(crate) fn sized_text(alloc: Global, size: &str) -> Result<String, Fail> {
+    let line = sized(alloc, size)?;
+    let event = event_fault(alloc, &line);
+    let header = header_fault(alloc, &line);
+    Ok(format!(in alloc; "{} {event} {header}", line.len())?)
+}
+
+// The name of what a line is refused for as an event.
 fn event_fault(alloc: Global, line: &[u8]) -> &'static str {
     match read_line(alloc, line) {
         Ok(_) => "none",
@@ -214,7 +240,7 @@ fn event_fault(alloc: Global, line: &[u8]) -> &'static str {
     }
 }
 
-/// The name of what a line is refused for as a header.
+// The name of what a line is refused for as a header.
 fn header_fault(alloc: Global, line: &[u8]) -> &'static str {
     match read_header(alloc, line) {
         Ok(_) => "none",
@@ -222,310 +248,44 @@ fn header_fault(alloc: Global, line: &[u8]) -> &'static str {
     }
 }
 
-/// The rows of a table: its lines, but for the empty ones.
-fn rows(alloc: Global, table: &str) -> Result<Vec<&str>, Fail> {
-    let mut rows = Vec::new(alloc);
-    for line in table.lines() {
-        if !line.is_empty() {
-            rows.push(line)?;
-        }
-    }
-    Ok(rows)
-}
-
-/// The two cells of a row, which are parted by ` | `.
-fn cells(row: &str) -> (&str, &str) {
-    row.split_once(" | ").unwrap_or((row, ""))
-}
-
-/// The line of an event as it is printed.
-fn printed(alloc: Global, event: &RecordedEvent) -> Result<String, Fail> {
-    Ok(String::from_utf8(print_recorded(alloc, event)?)?)
-}
-
-#[test]
-fn prints_each_event_as_the_line_that_was_read(rt: HostRuntime) -> Result<(), Fail> {
-    let alloc = rt.alloc();
-    for line in &rows(alloc, EVENTS)? {
-        let event = read_line(alloc, line.as_bytes())?;
-        assert_eq!(rt; printed(alloc, &event)?.as_str(), *line);
-    }
-    Ok(())
-}
-
-#[test]
-fn reads_fields_in_any_order_and_among_blanks(rt: HostRuntime) -> Result<(), Fail> {
-    let alloc = rt.alloc();
-    for row in &rows(alloc, WRITTEN_OTHERWISE)? {
-        let (line, written) = cells(row);
-        let event = read_line(alloc, written.as_bytes())?;
-        assert_eq!(rt; printed(alloc, &event)?.as_str(), line);
-    }
-    Ok(())
-}
-
-#[test]
-fn refuses_each_line_that_is_no_event(rt: HostRuntime) -> Result<(), Fail> {
-    let alloc = rt.alloc();
-    for row in &rows(alloc, REFUSED)? {
-        let (fault, line) = cells(row);
-        assert_eq!(rt; event_fault(alloc, line.as_bytes()), fault, "{line}");
-    }
-    Ok(())
-}
-
-#[test]
-fn reads_headers(rt: HostRuntime) -> Result<(), Fail> {
-    let alloc = rt.alloc();
-    for row in &rows(alloc, HEADERS)? {
-        let (version, line) = cells(row);
-        let header = read_header(alloc, line.as_bytes())?;
-        let found = format!(in alloc; "{}", header.version)?;
-        assert_eq!(rt; found.as_str(), version);
-    }
-    Ok(())
-}
-
-#[test]
-fn refuses_each_line_that_is_no_header(rt: HostRuntime) -> Result<(), Fail> {
-    let alloc = rt.alloc();
-    for row in &rows(alloc, NO_HEADERS)? {
-        let (fault, line) = cells(row);
-        assert_eq!(rt; header_fault(alloc, line.as_bytes()), fault, "{line}");
-    }
-    Ok(())
-}
-
-/// So many lists, one in the other.
-fn nested(alloc: Global, levels: usize) -> Result<Vec<u8>, Fail> {
+// A line of some size: `nested n` is n lists, one in the other, and `padded a b` the end of a recording after a spaces and
+// before b.
+fn sized(alloc: Global, size: &str) -> Result<Vec<u8>, Fail> {
+    let (word, rest) = size.split_once(' ').unwrap_or((size, ""));
     let mut line = Vec::new(alloc);
-    for _ in 0..levels {
-        line.push(b'[')?;
+    if word == "nested" {
+        let levels = rest.parse::<u32>()?;
+        add(&mut line, b'[', levels)?;
+        add(&mut line, b']', levels)?;
+        return Ok(line);
     }
-    for _ in 0..levels {
-        line.push(b']')?;
-    }
-    Ok(line)
-}
-
-#[test]
-fn refuses_what_nests_too_deep(rt: HostRuntime) -> Result<(), Fail> {
-    let alloc = rt.alloc();
-    assert_eq!(rt; event_fault(alloc, &nested(alloc, 64)?), "Field");
-    assert_eq!(rt; event_fault(alloc, &nested(alloc, 65)?), "TooDeep");
-    assert_eq!(rt; header_fault(alloc, &nested(alloc, 64)?), "NoHeader");
-    assert_eq!(rt; header_fault(alloc, &nested(alloc, 65)?), "TooDeep");
-    Ok(())
-}
-
-/// So many spaces.
-fn spaces(alloc: Global, count: usize) -> Result<Vec<u8>, Fail> {
-    let mut line = Vec::new(alloc);
-    for _ in 0..count {
-        line.push(b' ')?;
-    }
-    Ok(line)
-}
-
-#[test]
-fn refuses_a_line_that_is_too_long(rt: HostRuntime) -> Result<(), Fail> {
-    let alloc = rt.alloc();
-    let mut line = spaces(alloc, LONGEST - 12)?;
+    let (before, after) = rest.split_once(' ').unwrap_or((rest, ""));
+    add(&mut line, b' ', before.parse::<u32>()?)?;
     line.extend_from_slice(br#"{"do":"end"}"#)?;
-    assert_eq!(rt; line.len(), LONGEST);
-    assert_eq!(rt; event_fault(alloc, &line), "none");
-    assert_eq!(rt; header_fault(alloc, &line), "NoHeader");
-    line.push(b' ')?;
-    assert_eq!(rt; event_fault(alloc, &line), "LineTooLong");
-    assert_eq!(rt; header_fault(alloc, &line), "LineTooLong");
-    Ok(())
+    add(&mut line, b' ', after.parse::<u32>()?)?;
+    Ok(line)
 }
 
-/// Asserts what a line is printed as.
-fn prints(rt: &impl Abort, alloc: Global, line: &OutLine, expected: &str) -> Result<(), Fail> {
-    let text = String::from_utf8(print_out(alloc, line)?)?;
-    assert_eq!(rt; text.as_str(), expected);
-    Ok(())
-}
-
-/// The value of a text.
-fn value(alloc: Global, text: &str) -> Result<Val, Fail> {
-    Ok(Val::read(alloc, text.as_bytes())?)
-}
-
-#[test]
-fn prints_what_a_client_shows(rt: HostRuntime) -> Result<(), Fail> {
-    let alloc = rt.alloc();
-    let doc = value(alloc, r#"{"page:a":{"x":1}}"#)?;
-    let others = value(alloc, "{}")?;
-    let show = OutLine::Show {
-        client: 2,
-        clock: -1,
-        doc,
-        others,
-        owed: 3,
-    };
-    let wanted = r#"{"clock":-1,"doc":{"page:a":{"x":1}},"others":{},"owed":3,"show":2}"#;
-    prints(&rt, alloc, &show, wanted)
-}
-
-#[test]
-fn prints_what_the_room_has_at_the_end(rt: HostRuntime) -> Result<(), Fail> {
-    let alloc = rt.alloc();
-    let doc = value(alloc, "{}")?;
-    let presence = value(alloc, r#"{"p":1}"#)?;
-    let end = OutLine::End {
-        clock: 7,
-        doc,
-        presence,
-    };
-    prints(
-        &rt,
-        alloc,
-        &end,
-        r#"{"clock":7,"doc":{},"end":true,"presence":{"p":1}}"#,
-    )
-}
-
-#[test]
-fn prints_whether_edits_were_taken_back(rt: HostRuntime) -> Result<(), Fail> {
-    let alloc = rt.alloc();
-    let undo = OutLine::Undo {
-        client: 0,
-        done: true,
-    };
-    prints(&rt, alloc, &undo, r#"{"client":0,"undo":true}"#)
-}
-
-#[test]
-fn prints_whether_edits_were_done_again(rt: HostRuntime) -> Result<(), Fail> {
-    let alloc = rt.alloc();
-    let redo = OutLine::Redo {
-        client: 1,
-        done: false,
-    };
-    prints(&rt, alloc, &redo, r#"{"client":1,"redo":false}"#)
-}
-
-#[test]
-fn prints_a_refused_line(rt: HostRuntime) -> Result<(), Fail> {
-    let alloc = rt.alloc();
-    let text = Text::of(alloc, "NoMark")?;
-    let fault = OutLine::Fault { at: 2, text };
-    prints(&rt, alloc, &fault, r#"{"at":2,"fault":"NoMark"}"#)
-}
-
-/// Asserts how an end is printed, at the client and in a trace.
-fn prints_reason(
-    rt: &impl Abort,
-    alloc: Global,
-    reason: EndReason,
-    ended: &str,
-    ending: &str,
-) -> Result<(), Fail> {
-    prints(rt, alloc, &OutLine::Ended { client: 4, reason }, ended)?;
-    prints(rt, alloc, &OutLine::Ending { session: 5, reason }, ending)
-}
-
-#[test]
-fn prints_each_reason(rt: HostRuntime) -> Result<(), Fail> {
-    let alloc = rt.alloc();
-    let old = r#"{"client":4,"ended":"CLIENT_TOO_OLD"}"#;
-    prints_reason(
-        &rt,
-        alloc,
-        EndReason::ClientTooOld,
-        old,
-        r#"{"end":"CLIENT_TOO_OLD","to":5}"#,
-    )?;
-    let new = r#"{"client":4,"ended":"SERVER_TOO_OLD"}"#;
-    prints_reason(
-        &rt,
-        alloc,
-        EndReason::ServerTooOld,
-        new,
-        r#"{"end":"SERVER_TOO_OLD","to":5}"#,
-    )?;
-    let invalid = r#"{"client":4,"ended":"INVALID_RECORD"}"#;
-    prints_reason(
-        &rt,
-        alloc,
-        EndReason::InvalidRecord,
-        invalid,
-        r#"{"end":"INVALID_RECORD","to":5}"#,
-    )?;
-    let full = r#"{"client":4,"ended":"ROOM_FULL"}"#;
-    prints_reason(
-        &rt,
-        alloc,
-        EndReason::RoomFull,
-        full,
-        r#"{"end":"ROOM_FULL","to":5}"#,
-    )?;
-    let slow = r#"{"client":4,"ended":"SLOW"}"#;
-    prints_reason(
-        &rt,
-        alloc,
-        EndReason::Slow,
-        slow,
-        r#"{"end":"SLOW","to":5}"#,
-    )
-}
-
-/// Asserts what a line of the world, a query or a watch is printed as.
-fn prints_line(
-    rt: &impl Abort,
-    alloc: Global,
-    line: &PrintedLine,
-    expected: &str,
-) -> Result<(), Fail> {
-    let text = String::from_utf8(print_line(alloc, line)?)?;
-    assert_eq!(rt; text.as_str(), expected);
+// Adds a byte so many times.
+fn add(line: &mut Vec<u8>, byte: u8, count: u32) -> Mem<()> {
+    for _ in 0..count {
+        line.push(byte)?;
+    }
     Ok(())
 }
 
 #[test]
-fn prints_what_a_query_found(rt: HostRuntime) -> Result<(), Fail> {
-    let alloc = rt.alloc();
-    let none = PrintedLine::Ids {
-        client: 0,
-        ids: IdList::of(Vec::new(alloc)),
-    };
-    prints_line(&rt, alloc, &none, r#"{"client":0,"ids":[],"query":true}"#)?;
-    let ids = vec![in alloc; Text::of(alloc, "shape:b")?, Text::of(alloc, "shape:a")?]?;
-    let two = PrintedLine::Ids {
-        client: 7,
-        ids: IdList::of(ids),
-    };
-    prints_line(
-        &rt,
-        alloc,
-        &two,
-        r#"{"client":7,"ids":["shape:b","shape:a"],"query":true}"#,
-    )
+fn reads_and_prints_each_event(rt: HostRuntime) -> Result<(), Fail> {
+    let tables = [EVENTS, WRITTEN_OTHERWISE, REFUSED];
+    plays(&rt, rt.alloc(), Reading::Event, &tables)
 }
 
 #[test]
-fn prints_what_a_watch_tells(rt: HostRuntime) -> Result<(), Fail> {
-    let alloc = rt.alloc();
-    let told = PrintedLine::Told {
-        client: 1,
-        told: value(alloc, r#"{"h":2,"w":1,"x":-3,"y":0}"#)?,
-        watch: 63,
-    };
-    prints_line(
-        &rt,
-        alloc,
-        &told,
-        r#"{"client":1,"told":{"h":2,"w":1,"x":-3,"y":0},"watch":63}"#,
-    )
+fn reads_each_header(rt: HostRuntime) -> Result<(), Fail> {
+    plays(&rt, rt.alloc(), Reading::Header, &[HEADERS, NO_HEADERS])
 }
 
 #[test]
-fn prints_a_line_of_the_world(rt: HostRuntime) -> Result<(), Fail> {
-    let undo = PrintedLine::World(OutLine::Undo {
-        client: 0,
-        done: true,
-    });
-    prints_line(&rt, rt.alloc(), &undo, r#"{"client":0,"undo":true}"#)
+fn refuses_what_nests_too_deep_or_is_too_long(rt: HostRuntime) -> Result<(), Fail> {
+    plays(&rt, rt.alloc(), Reading::Sized, &[SIZED])
 }

@@ -1,11 +1,12 @@
-//! The values of views and queries, by tables.
-use case_tables::{printed, rows, value};
+//! The values of views and queries: what each is read as, and which are none.
+use crate::tables::{Reading, plays};
+use case_tables::{printed, value};
 use rooms_val::OpFault;
 use std::alloc::Global;
 use std::test::Fail;
 use view_vals::{query_val, read_query, read_view, view_val};
 
-/// A view of each form.
+// A view of each form.
 const VIEWS: &str = r#"
 {"box":"shape:a"}
 {"tree":"page:a"}
@@ -15,23 +16,23 @@ const VIEWS: &str = r#"
 {"count":"a text of more than twenty-two bytes"}
 "#;
 
-/// Values that are those of no view.
+// Values that are those of no view, each after the fault.
 const NO_VIEWS: &str = r#"
-null
-"tree"
-["tree","page:a"]
-{}
-{"tree":1}
-{"tree":null}
-{"tree":["page:a"]}
-{"Tree":"page:a"}
-{"trees":"page:a"}
-{"":"page:a"}
-{"box":"shape:a","tree":"page:a"}
-{"tree":"page:a","z":0}
+WrongKind | null
+WrongKind | "tree"
+WrongKind | ["tree","page:a"]
+WrongKind | {}
+WrongKind | {"tree":1}
+WrongKind | {"tree":null}
+WrongKind | {"tree":["page:a"]}
+WrongKind | {"Tree":"page:a"}
+WrongKind | {"trees":"page:a"}
+WrongKind | {"":"page:a"}
+WrongKind | {"box":"shape:a","tree":"page:a"}
+WrongKind | {"tree":"page:a","z":0}
 "#;
 
-/// A query of each form.
+// A query of each form.
 const QUERIES: &str = r#"
 ["eq","x",1]
 ["eq","",null]
@@ -48,94 +49,76 @@ const QUERIES: &str = r#"
 ["not",["not",["and",[["not",["eq","x",false]],["or",[["gt","x",1]]]]]]]
 "#;
 
-/// Values that are those of no query.
+// Values that are those of no query, each after the fault.
 const NO_QUERIES: &str = r#"
-null
-"eq"
-{}
-{"eq":["x",1]}
-[]
-["eq"]
-["eq","x"]
-["eq","x",1,2]
-["eq",1,"x"]
-["Eq","x",1]
-["is","x",1]
-[["eq","x",1]]
-[1,"x",1]
-["neq","x"]
-["neq","x",1,2]
-["neq",null,1]
-["gt","x"]
-["gt","x","1"]
-["gt","x",null]
-["gt","x",1,2]
-["gt",1,1]
-["and"]
-["and",["eq","x",1]]
-["and",["eq","x",1],["eq","y",1]]
-["and",{}]
-["and",[["eq","x",1],null]]
-["and",[["eq","x"],["eq","x",1]]]
-["or"]
-["or",null]
-["or",[[]]]
-["or",[],[]]
-["not"]
-["not",[]]
-["not",["eq","x"]]
-["not",["or",[]],["or",[]]]
-["not","or",[]]
+WrongKind | null
+WrongKind | "eq"
+WrongKind | {}
+WrongKind | {"eq":["x",1]}
+WrongKind | []
+WrongKind | ["eq"]
+WrongKind | ["eq","x"]
+WrongKind | ["eq","x",1,2]
+WrongKind | ["eq",1,"x"]
+WrongKind | ["Eq","x",1]
+WrongKind | ["is","x",1]
+WrongKind | [["eq","x",1]]
+WrongKind | [1,"x",1]
+WrongKind | ["neq","x"]
+WrongKind | ["neq","x",1,2]
+WrongKind | ["neq",null,1]
+WrongKind | ["gt","x"]
+WrongKind | ["gt","x","1"]
+WrongKind | ["gt","x",null]
+WrongKind | ["gt","x",1,2]
+WrongKind | ["gt",1,1]
+WrongKind | ["and"]
+WrongKind | ["and",["eq","x",1]]
+WrongKind | ["and",["eq","x",1],["eq","y",1]]
+WrongKind | ["and",{}]
+WrongKind | ["and",[["eq","x",1],null]]
+WrongKind | ["and",[["eq","x"],["eq","x",1]]]
+WrongKind | ["or"]
+WrongKind | ["or",null]
+WrongKind | ["or",[[]]]
+WrongKind | ["or",[],[]]
+WrongKind | ["not"]
+WrongKind | ["not",[]]
+WrongKind | ["not",["eq","x"]]
+WrongKind | ["not",["or",[]],["or",[]]]
+WrongKind | ["not","or",[]]
 "#;
 
-/// Whether a value is refused as a view.
-fn is_no_view(alloc: Global, text: &str) -> Result<bool, Fail> {
-    let val = value(alloc, text)?;
-    Ok(matches!(read_view(alloc, &val), Err(OpFault::WrongKind)))
+// The value that a view is written as which is read from one, or the name of the fault.
+pub(crate) fn view_text(alloc: Global, text: &str) -> Result<String, Fail> {
+    match read_view(alloc, &value(alloc, text)?) {
+        Ok(view) => printed(alloc, &view_val(alloc, &view)?),
+        Err(fault) => fault_text(alloc, fault),
+    }
 }
 
-/// Whether a value is refused as a query.
-fn is_no_query(alloc: Global, text: &str) -> Result<bool, Fail> {
-    let val = value(alloc, text)?;
-    Ok(matches!(read_query(alloc, &val), Err(OpFault::WrongKind)))
+// The value that a query is written as which is read from one, or the name of the fault.
+pub(crate) fn query_text(alloc: Global, text: &str) -> Result<String, Fail> {
+    match read_query(alloc, &value(alloc, text)?) {
+        Ok(query) => printed(alloc, &query_val(alloc, &query)?),
+        Err(fault) => fault_text(alloc, fault),
+    }
+}
+
+// The name of a fault that a table speaks of.
+fn fault_text(alloc: Global, fault: OpFault) -> Result<String, Fail> {
+    match fault {
+        OpFault::WrongKind => Ok(String::from_str(alloc, "WrongKind")?),
+        _ => Err(Fail::from("out of memory")),
+    }
 }
 
 #[test]
-fn writes_each_view_as_the_value_that_was_read(rt: HostRuntime) -> Result<(), Fail> {
-    let alloc = rt.alloc();
-    for text in &rows(alloc, VIEWS)? {
-        let view = read_view(alloc, &value(alloc, text)?)?;
-        let written = printed(alloc, &view_val(alloc, &view)?)?;
-        assert_eq!(rt; written.as_str(), *text);
-    }
-    Ok(())
+fn reads_and_writes_each_view(rt: HostRuntime) -> Result<(), Fail> {
+    plays(&rt, rt.alloc(), Reading::View, &[VIEWS, NO_VIEWS])
 }
 
 #[test]
-fn writes_each_query_as_the_value_that_was_read(rt: HostRuntime) -> Result<(), Fail> {
-    let alloc = rt.alloc();
-    for text in &rows(alloc, QUERIES)? {
-        let query = read_query(alloc, &value(alloc, text)?)?;
-        let written = printed(alloc, &query_val(alloc, &query)?)?;
-        assert_eq!(rt; written.as_str(), *text);
-    }
-    Ok(())
-}
-
-#[test]
-fn refuses_each_value_of_no_view(rt: HostRuntime) -> Result<(), Fail> {
-    let alloc = rt.alloc();
-    for text in &rows(alloc, NO_VIEWS)? {
-        assert!(rt; is_no_view(alloc, text)?, "{text}");
-    }
-    Ok(())
-}
-
-#[test]
-fn refuses_each_value_of_no_query(rt: HostRuntime) -> Result<(), Fail> {
-    let alloc = rt.alloc();
-    for text in &rows(alloc, NO_QUERIES)? {
-        assert!(rt; is_no_query(alloc, text)?, "{text}");
-    }
-    Ok(())
+fn reads_and_writes_each_query(rt: HostRuntime) -> Result<(), Fail> {
+    plays(&rt, rt.alloc(), Reading::Query, &[QUERIES, NO_QUERIES])
 }
