@@ -163,6 +163,21 @@ module _ {V : Type 0} where
       let above : order k d.0 ≡ Greater = flipped d.0 k Less (less _ (below_middle d.0 done (k, v) more (first _ _ h)).0) in
       rw above (ap (λ rest. d ∷ rest) (put_last done k v more (second _ _ h)))
 
+  -- what is found in a front is found in the whole
+  pub found_in_front : (front left : List (List ℕ × V)) (k : List ℕ) (v : V) → value_at front k ≡ Some v → value_at (front ++ left) k ≡ Some v
+  found_in_front [] left k v is = absurd (cc)
+  found_in_front (e ∷ front) left k v is =
+      elim (ties k e.0) as (λ b. cond b (Some e.1) (value_at front k) ≡ Some v → cond b (Some e.1) (value_at (front ++ left) k) ≡ Some v) [
+        | true ↦ λ there. there
+        | false ↦ λ there. found_in_front front left k v there
+      ] is
+
+  -- what stands under a key in the middle of rising pairs
+  pub found_within : (front : List (List ℕ × V)) (k : List ℕ) (v : V) (left : List (List ℕ × V)) → AreRising (front ++ (k, v) ∷ left) → value_at (front ++ (k, v) ∷ left) k ≡ Some v
+  found_within front k v left rising =
+      ap (λ ps. value_at ps k) (sym (append_assoc front ((k, v) ∷ []) left))
+      ∙ found_in_front (front ++ (k, v) ∷ []) left k v (ap (λ ps. value_at ps k) (sym (put_last front k v left rising)) ∙ at-with_key front k k v ∙ rw (order_itself k) refl)
+
   -- a pair fewer
   pub rising_without : (done : List (List ℕ × V)) (e : List ℕ × V) (more : List (List ℕ × V)) → AreRising (done ++ e ∷ more) → AreRising (done ++ more)
   rising_without [] e more h = second _ _ h

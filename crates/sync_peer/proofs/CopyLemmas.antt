@@ -1,8 +1,8 @@
 -- A map is copied, one key after another.
-use Rattle.std.proofs.Common.{◌≡◌, ℕ, suc, length, cond, true, false, List, [], ◌∷◌, ◌++◌, map, Some, refl, sym, ap, subst, ◌∙◌, append_assoc, append-nil}
-use Rattle.rooms_val.specs.Data.{Data, Pairs}
-use Rattle.rooms_val.specs.Maps.{added, value_at, AreRising, ties}
-use Rattle.rooms_val.proofs.MapsLemmas.{put_last, at-with_key, order_itself}
+use Rattle.std.proofs.Common.{◌≡◌, ℕ, suc, length, List, [], ◌∷◌, ◌++◌, map, refl, sym, ap, subst, ◌∙◌, append_assoc, append-nil}
+use Rattle.rooms_val.specs.Data.{Pairs}
+use Rattle.rooms_val.specs.Maps.{added, value_at, AreRising}
+use Rattle.rooms_val.proofs.MapsLemmas.{put_last, found_within}
 
 -- these pairs were copied, and those of the keys are left
 pub record IsCopied (all done : Pairs) (keys : List (List ℕ)) : Type 0 where
@@ -12,21 +12,6 @@ pub record IsCopied (all done : Pairs) (keys : List (List ℕ)) : Type 0 where
 
 pub none_copied : (all done : Pairs) (keys : List (List ℕ)) → done ≡ [] → keys ≡ map (λ p. p.0) all → IsCopied all done keys
 none_copied all done keys none are = record { left = all; whole = ap (λ ps. ps ++ all) none; keys_are = are }
-
--- what is found in a front is found in the whole
-found_in_front : (front left : Pairs) (k : List ℕ) (d : Data) → value_at front k ≡ Some d → value_at (front ++ left) k ≡ Some d
-found_in_front [] left k d is = absurd (cc)
-found_in_front (p ∷ front) left k d is =
-    elim (ties k p.0) as (λ b. cond b (Some p.1) (value_at front k) ≡ Some d → cond b (Some p.1) (value_at (front ++ left) k) ≡ Some d) [
-      | true ↦ λ e. e
-      | false ↦ λ e. found_in_front front left k d e
-    ] is
-
--- what stands under a key in the middle of rising pairs
-found_within : (front : Pairs) (k : List ℕ) (d : Data) (left : Pairs) → AreRising (front ++ (k, d) ∷ left) → value_at (front ++ (k, d) ∷ left) k ≡ Some d
-found_within front k d left rising =
-    ap (λ ps. value_at ps k) (sym (append_assoc front ((k, d) ∷ []) left))
-    ∙ found_in_front (front ++ (k, d) ∷ []) left k d (ap (λ ps. value_at ps k) (sym (put_last front k d left rising)) ∙ at-with_key front k k d ∙ rw (order_itself k) refl)
 
 module _ (all done : Pairs) (rising : AreRising all) (key : List ℕ) (keys : List (List ℕ)) (more : Pairs) (put : more ≡ added done key (value_at all key)) where
   by_left : (left : Pairs) → done ++ left ≡ all → key ∷ keys ≡ map (λ p. p.0) left → IsCopied all more keys

@@ -2,29 +2,14 @@
 use Rattle.std.proofs.Common.{◌≡◌, ℕ, suc, length, Bool, true, false, cond, List, [], ◌∷◌, ◌++◌, map, filter, Option, Some, None, refl, sym, ap, subst, ◌∙◌, append_assoc, append-nil}
 use Rattle.std.proofs.lemmas.List.Elements.{filter-append}
 use Rattle.rooms_val.specs.Data.{Data, Pairs}
-use Rattle.rooms_val.specs.Maps.{added, value_at, AreRising, with_key, ties}
-use Rattle.rooms_val.proofs.MapsLemmas.{at-with_key, order_itself, put_last}
+use Rattle.rooms_val.specs.Maps.{added, value_at, AreRising, with_key}
+use Rattle.rooms_val.proofs.MapsLemmas.{put_last, found_within}
 use Rattle.room_model.proofs.LookUpLemmas.{rising-filter}
 
 -- nothing is left where no id is
 pub nothing_left : (ids : List (List ℕ)) → length ids ≡ 0 → ids ≡ []
 nothing_left [] is = refl
 nothing_left (id ∷ ids) is = absurd (let none : suc (length ids) ≡ 0 = is in cc)
-
--- what is found in a front is found in the whole
-found_in_front : (xs ys : Pairs) (k : List ℕ) (d : Data) → value_at xs k ≡ Some d → value_at (xs ++ ys) k ≡ Some d
-found_in_front [] ys k d is = absurd (cc)
-found_in_front (x ∷ xs) ys k d is =
-    elim (ties k x.0) as (λ b. cond b (Some x.1) (value_at xs k) ≡ Some d → cond b (Some x.1) (value_at (xs ++ ys) k) ≡ Some d) [
-      | true ↦ λ e. e
-      | false ↦ λ e. found_in_front xs ys k d e
-    ] is
-
--- what stands under a key in the middle of rising pairs
-found_within : (front : Pairs) (k : List ℕ) (d : Data) (left : Pairs) → AreRising (front ++ (k, d) ∷ left) → value_at (front ++ (k, d) ∷ left) k ≡ Some d
-found_within front k d left rising =
-    ap (λ ps. value_at ps k) (sym (append_assoc front ((k, d) ∷ []) left))
-    ∙ found_in_front (front ++ (k, d) ∷ []) left k d (ap (λ ps. value_at ps k) (sym (put_last front k d left rising)) ∙ at-with_key front k k d ∙ rw (order_itself k) refl)
 
 -- of the records up to some ids those are chosen that pass a test
 abbrev pub Chosen : (List ℕ → Bool) → Pairs → Pairs → List (List ℕ) → Type 0
