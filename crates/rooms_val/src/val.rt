@@ -1,5 +1,6 @@
 //! A JSON value.
 ghost use Rattle.std.specs.Prelude.{◌≡◌, ◌^◌, ◌-◌, ◌++◌, min, IfOk, OnOk, option_map};
+ghost use Rattle.std.specs.Option.{option_copied};
 
 use crate::fields::Fields;
 use crate::memory::Mem;
@@ -118,6 +119,30 @@ impl Val {
             Val::List(items) => Val::List(items.copy(alloc)?),
             Val::Map(fields) => Val::Map(fields.copy(alloc)?),
         })
+    }
+
+    /// An equal value, if there is one, at the cost of counting one more owner. It takes no memory.
+    ///
+    /// # Errors
+    /// Out of memory alone, where the count of owners is full.
+    pub fn copy_of(alloc: Global, val: Option<&Val>) -> Mem<Option<Val>>
+        ensures { IfOk result (λ copy.
+            option_map data_of copy ≡ option_map data_of (option_copied val.entry)) }
+    {
+        match val {
+            Some(val) => Ok(Some(val.copy(alloc)?)),
+            None => Ok(None),
+        }
+    }
+
+    /// The same, where the value stands in a slot.
+    ///
+    /// # Errors
+    /// Out of memory alone, where the count of owners is full.
+    pub fn copy_slot(alloc: Global, slot: &Option<Val>) -> Mem<Option<Val>>
+        ensures { IfOk result (λ copy. option_map data_of copy ≡ option_map data_of slot.now) }
+    {
+        Val::copy_of(alloc, slot.as_ref())
     }
 
     /// What it weighs: 1 for each value in it, and beside that the bytes of each text and key; 2^64 - 1 where that is
