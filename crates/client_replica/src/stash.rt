@@ -68,7 +68,7 @@ impl Stash {
         ensures err { OnErr result (self.new ≡ self.old) }
     {
         let key = String::from_str(alloc, id)?;
-        let slot = copied(alloc, record_)?;
+        let slot = Val::copy_of(alloc, record_)?;
         match self.tree.insert(key, slot) {
             Ok(old) => {
                 drop(old);
@@ -196,18 +196,8 @@ impl Stash {
         ensures ticks { steps.new ≤ steps.old + length self.now }
     {
         for (id, slot) in &self.tree {
-            drop(store.write(alloc, id.as_str(), copied(alloc, slot.as_ref())?, steps)?);
+            drop(store.write(alloc, id.as_str(), Val::copy_slot(alloc, slot)?, steps)?);
         }
         Ok(())
-    }
-}
-
-// An equal record, if there is one.
-fn copied(alloc: Global, record_: Option<&Val>) -> Mem<Option<Val>>
-    ensures { IfOk result (λ copy. maybe_data copy ≡ maybe_data (option_copied record_.entry)) }
-{
-    match record_ {
-        Some(val) => Ok(Some(val.copy(alloc)?)),
-        None => Ok(None),
     }
 }

@@ -62,7 +62,7 @@ impl Slots {
         ensures sound { AreSound self.now }
     {
         match self.tree.get(id) {
-            Some(slot) => Ok(Some(copied(alloc, slot)?)),
+            Some(slot) => Ok(Some(Val::copy_slot(alloc, slot)?)),
             None => Ok(None),
         }
     }
@@ -110,15 +110,5 @@ fn tell_sound(slot: &Slot)
 {
     if let Some(val) = slot {
         let _ = val.kind();
-    }
-}
-
-// An equal slot.
-fn copied(alloc: Global, slot: &Slot) -> Mem<Slot>
-    ensures { IfOk result (λ s. maybe_data s ≡ maybe_data slot.now) }
-{
-    match slot {
-        Some(val) => Ok(Some(val.copy(alloc)?)),
-        None => Ok(None),
     }
 }

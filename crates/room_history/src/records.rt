@@ -63,20 +63,10 @@ fn write_each<L: Ledger>(
     ensures ticks { steps.new ≤ steps.old + length left.now }
 {
     'ids: for (id, record_) in left {
-        let record_ = copied(alloc, record_)?;
+        let record_ = Val::copy_slot(alloc, record_)?;
         drop(records.write(alloc, id.as_str(), record_, steps)?);
     }
     Ok(())
-}
-
-// An equal record, where there is one.
-fn copied(alloc: Global, record_: &Option<Val>) -> Mem<Option<Val>>
-    ensures { IfOk result (λ copy. maybe_data copy ≡ maybe_data record_.now) }
-{
-    match record_ {
-        Some(val) => Ok(Some(val.copy(alloc)?)),
-        None => Ok(None),
-    }
 }
 
 // Takes the record of an id away, and tells whether there was one. It takes no memory.

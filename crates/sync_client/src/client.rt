@@ -397,7 +397,7 @@ impl<D: DocStore> SyncClient<D> {
             (length diff.now + wiped hydration (records_with
             (document_of self.old.replica) held.base))) }
     {
-        let own = copied(alloc, &self.presence)?;
+        let own = Val::copy_slot(alloc, &self.presence)?;
         self.replica
             .take_snapshot(alloc, hydration, diff, own, steps)?;
         self.connection = opened(self.connection);
@@ -491,15 +491,5 @@ fn opened(connection: Connection) -> Connection
         Connection::Off => Connection::Off,
         Connection::Asking(session) => Connection::Open(session),
         Connection::Open(session) => Connection::Open(session),
-    }
-}
-
-// An equal record, if there is one.
-fn copied(alloc: Global, record_: &Option<Val>) -> Mem<Option<Val>>
-    ensures { IfOk result (λ copy. maybe_data copy ≡ maybe_data record_.now) }
-{
-    match record_ {
-        Some(val) => Ok(Some(val.copy(alloc)?)),
-        None => Ok(None),
     }
 }
