@@ -6,7 +6,8 @@ use Rattle.index_keys.specs.declared.fault.BetweenFault.{BetweenFault}
 use Rattle.index_keys.specs.declared.fault.BetweenFault.TheVariants.{OutOfMemory}
 
 -- the answer is the defined one, seen by view, unless memory ran out
-abbrev pub Gives : {T D : Type 0} → (T → D) → Result T BetweenFault → Result D BetweenFault → Type 0
+abbrev pub Gives : {T D : Type 0} → (T → D)
+    → Result T BetweenFault → Result D BetweenFault → Type 0
 Gives view (Ok x) defined = defined ≡ Ok (view x)
 Gives view (Err fault) defined = fault ≢ OutOfMemory → defined ≡ Err fault
 

@@ -30,7 +30,8 @@ abbrev pub smallest : List ℕ
 smallest = filled 10 0
 
 -- a digit before others, by what a step makes of these: the digit steps where the carry leaves them
-abbrev pub carry_into : (ℕ → Bool) → ℕ → (ℕ → ℕ) → ℕ → List ℕ → Option (List ℕ) → Option (List ℕ)
+abbrev pub carry_into : (ℕ → Bool) → ℕ → (ℕ → ℕ) → ℕ → List ℕ
+    → Option (List ℕ) → Option (List ℕ)
 carry_into is_full empty step digit digits (Some stepped) = Some (digit ∷ stepped)
 carry_into is_full empty step digit digits None =
     if is_full digit then None else Some (step digit ∷ replicate (length digits) empty)

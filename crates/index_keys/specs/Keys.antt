@@ -11,7 +11,8 @@ use Rattle.index_keys.specs.declared.fault.KeyFault.TheVariants.{BadHead, ShortI
 abbrev pub head_of : List ℕ → ℕ
 head_of key = slice_index key 0
 
--- the length of the integer part, head included: 2 under `a` to 27 under `z`, 2 under `Z` to 27 under `A`
+-- the length of the integer part, head included: 2 under `a` to 27 under `z`, 2 under `Z` to 27
+-- under `A`
 abbrev pub integer_length : ℕ → ℕ
 integer_length head = if is_ascii_lowercase head then head - 97 + 2 else 90 - head + 2
 

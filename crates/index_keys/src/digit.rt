@@ -4,11 +4,13 @@ ghost use Rattle.index_keys.specs.Digits.{value_of, digit_of, values_of, text_of
 
 use std::alloc::{AllocError, Global};
 
-// The values of the digits `A`, `Z`, `a` and `z`.
+/// The value of the digit `A`.
 pub const UPPER_A: u8 = 10;
 
+/// The value of the digit `a`.
 pub const LOWER_A: u8 = 36;
 
+/// The value of the digit `z`, past which there is none.
 pub const GREATEST: u8 = 61;
 
 // The value of a digit.
@@ -38,14 +40,20 @@ fn digit_of(value: u8) -> u8
     }
 }
 
-// The values of a text's digits.
+/// The values of a text's digits, each below 62 where the text has digits alone. It costs the text.
+///
+/// # Errors
+/// Out of memory alone.
 pub fn values_of(alloc: Global, text: &str) -> Result<Vec<u8>, AllocError>
     ensures { IfOk result (λ values. values.items ≡ values_of text.now) }
 {
     text.bytes().map(value_of).collect(alloc)
 }
 
-// The text whose digits have these values.
+/// The text whose digits have these values, each below 62. It costs the text.
+///
+/// # Errors
+/// Out of memory alone.
 pub fn text_of(alloc: Global, values: &[u8]) -> Result<String, AllocError>
     requires { All (λ value. value < 62) values.now }
     ensures { IfOk result (λ text. string_bytes text ≡ text_of values.now) }

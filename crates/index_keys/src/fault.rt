@@ -1,3 +1,4 @@
+//! Why a text is no key, and why there is no key between two.
 ghost use Rattle.std.specs.Prelude.{◌≡◌};
 ghost use Rattle.index_keys.specs.declared.fault.BetweenFault.TheVariants as between_fault;
 
@@ -39,7 +40,7 @@ pub enum BetweenFault {
     /// The key between them would have more than 256 characters.
     #[error("the key would be too long")]
     KeyTooLong,
-    /// Memory was refused.
+    /// Out of memory.
     #[error("out of memory")]
     OutOfMemory,
 }

@@ -13,7 +13,10 @@ fn half_way(low: u8, high: u8) -> u8
     low + (high - low).div_ceil(2)
 }
 
-// Writes the midpoint of a fraction and none after what the key has.
+/// Writes the midpoint of a fraction and none after what the key has. It costs the fraction.
+///
+/// # Errors
+/// Out of memory alone; then the key may have a part of it.
 pub fn push_midpoint_open(key: &mut Vec<u8>, below: &[u8]) -> Result<(), AllocError>
     ensures { OnOk result (key.new.items ≡ key.old.items ++ midpoint_open below.now) }
 {
@@ -26,9 +29,14 @@ pub fn push_midpoint_open(key: &mut Vec<u8>, below: &[u8]) -> Result<(), AllocEr
     Ok(key.push(half_way(0, GREATEST + 1))?)
 }
 
-// Writes the midpoint of two fractions, the first less than the second, after what the key has.
+/// Writes the midpoint of two fractions, the first less than the second, after what the key has. It
+/// costs the fractions.
+///
+/// # Errors
+/// Out of memory alone; then the key may have a part of it.
 pub fn push_midpoint_within(key: &mut Vec<u8>, below: &[u8], above: &[u8]) -> Result<(), AllocError>
-    ensures { OnOk result (key.new.items ≡ key.old.items ++ midpoint_within below.now above.now) }
+    ensures { OnOk result
+        (key.new.items ≡ key.old.items ++ midpoint_within below.now above.now) }
 {
     for (place, high) in above.iter().enumerate() {
         let low = below.get(place).copied().unwrap_or(0);

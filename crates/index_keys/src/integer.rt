@@ -6,7 +6,7 @@ ghost use Rattle.index_keys.specs.Between.{width, integer_part, fraction_part, f
 use crate::digit::{GREATEST, LOWER_A, UPPER_A};
 use std::alloc::{AllocError, Global};
 
-// How many digits follow a head in its integer part: 1 to 26.
+/// How many digits follow a head in its integer part: 1 to 26 after a letter.
 pub fn width(head: u8) -> usize
     ensures { result ≡ width head }
 {
@@ -17,7 +17,7 @@ pub fn width(head: u8) -> usize
     }
 }
 
-// The integer part of a key.
+/// The integer part of a key, which has one: a head with the digits that it needs.
 pub fn integer_part(key: &[u8]) -> &[u8]
     requires { width (slice_index key.now 0) < length key.now }
     ensures { result.now ≡ integer_part key.now }
@@ -25,7 +25,7 @@ pub fn integer_part(key: &[u8]) -> &[u8]
     &key[..width(key[0]) + 1]
 }
 
-// The fraction of a key.
+/// The fraction of a key, which has an integer part: what follows that.
 pub fn fraction_part(key: &[u8]) -> &[u8]
     requires { width (slice_index key.now 0) < length key.now }
     ensures { result.now ≡ fraction_part key.now }
@@ -33,7 +33,10 @@ pub fn fraction_part(key: &[u8]) -> &[u8]
     &key[width(key[0]) + 1..]
 }
 
-// A head and the one digit, as often as the head needs.
+/// A head and the one digit, as often as the head needs.
+///
+/// # Errors
+/// Out of memory alone.
 pub fn filled(alloc: Global, head: u8, digit: u8) -> Result<Vec<u8>, AllocError>
     ensures { IfOk result (λ integer. integer.items ≡ filled head digit) }
 {
@@ -74,10 +77,14 @@ fn subtract_one(digits: &mut [u8]) -> bool
     false
 }
 
-// The integer part after this one, if there is one.
+/// The integer part after this one, if there is one. It costs the integer part, some 27 digits.
+///
+/// # Errors
+/// Out of memory alone.
 pub fn increment(alloc: Global, integer: &[u8]) -> Result<Option<Vec<u8>>, AllocError>
     requires { 0 < length integer.now }
-    ensures { IfOk result (λ next. option_map (λ found. found.items) next ≡ increment integer.now) }
+    ensures { IfOk result (λ next.
+        option_map (λ found. found.items) next ≡ increment integer.now) }
 {
     let mut next = integer.to_vec(alloc)?;
     if add_one(&mut next[1..]) {
@@ -90,10 +97,14 @@ pub fn increment(alloc: Global, integer: &[u8]) -> Result<Option<Vec<u8>>, Alloc
     Ok(Some(filled(alloc, head + 1, 0)?))
 }
 
-// The integer part before this one, if there is one.
+/// The integer part before this one, if there is one. It costs the integer part, some 27 digits.
+///
+/// # Errors
+/// Out of memory alone.
 pub fn decrement(alloc: Global, integer: &[u8]) -> Result<Option<Vec<u8>>, AllocError>
     requires { 0 < length integer.now }
-    ensures { IfOk result (λ last. option_map (λ found. found.items) last ≡ decrement integer.now) }
+    ensures { IfOk result (λ last.
+        option_map (λ found. found.items) last ≡ decrement integer.now) }
 {
     let mut last = integer.to_vec(alloc)?;
     if subtract_one(&mut last[1..]) {
@@ -106,7 +117,10 @@ pub fn decrement(alloc: Global, integer: &[u8]) -> Result<Option<Vec<u8>>, Alloc
     Ok(Some(filled(alloc, head - 1, GREATEST)?))
 }
 
-// The smallest integer part, `A` and 26 `0`.
+/// The smallest integer part, `A` and 26 `0`.
+///
+/// # Errors
+/// Out of memory alone.
 pub fn smallest(alloc: Global) -> Result<Vec<u8>, AllocError>
     ensures { IfOk result (λ integer. integer.items ≡ smallest) }
 {

@@ -7,10 +7,10 @@ ghost use Rattle.index_keys.specs.Keys.{integer_length, first_fault, IsKey};
 
 use crate::fault::KeyFault;
 
-/// The one integer part below which there is no other: `A` and 26 `0`.
+// The one integer part below which there is no other: `A` and 26 `0`.
 const SMALLEST_INTEGER: &str = "A00000000000000000000000000";
 
-/// How many characters an integer part has under this head, the head included: 2 to 27.
+// How many characters an integer part has under this head, the head included: 2 to 27.
 fn integer_length(head: u8) -> usize
     requires { IsTrue (is_ascii_alphabetic head) }
     ensures { result ≡ integer_length head }
@@ -22,7 +22,7 @@ fn integer_length(head: u8) -> usize
     }
 }
 
-/// How many characters the text has, at most as many as it has bytes.
+// How many characters the text has, at most as many as it has bytes.
 fn character_count(text: &str) -> usize
     ensures characters { result ≡ length (chars text.now) }
     ensures within_bytes { result ≤ length text.now }
@@ -30,16 +30,19 @@ fn character_count(text: &str) -> usize
     text.chars().count()
 }
 
-/// Whether each byte is a digit of a key.
+// Whether each byte is a digit of a key.
 fn are_digits(bytes: &[u8]) -> bool
     ensures { result ≡ list_all is_ascii_alphanumeric bytes.now }
 {
     bytes.iter().all(|byte| byte.is_ascii_alphanumeric())
 }
 
-/// Tells whether the text is a valid key, and if not its first fault in the order of [`KeyFault`].
+/// Tells whether the text is a valid key.
 ///
-/// The key's length counts characters. The call takes no memory.
+/// The key's length counts characters. The call reads the text once and takes no memory.
+///
+/// # Errors
+/// The text's first fault in the order of [`KeyFault`], where it is no valid key.
 pub fn check(key: &str) -> Result<(), KeyFault>
     ensures valid { IsOk result ↔ IsKey key.now }
     ensures fault { result_err result ≡ first_fault key.now }
