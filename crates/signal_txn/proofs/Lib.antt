@@ -1,4 +1,9 @@
 mod LastWritesLemmas
+pub mod TurnLemmas
+mod KeptLemmas
+mod HistoryLemmas
+mod PassingLemmas
+mod WrittenLemmas
 mod EntryLemmas
 mod FromLemmas
 mod UndoLemmas

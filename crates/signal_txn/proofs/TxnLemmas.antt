@@ -11,8 +11,13 @@ use Rattle.signal_txn.specs.LastWrites.{LastWrites}
 use Rattle.signal_txn.specs.Level.{Level, began_at, noted, map_from}
 use Rattle.signal_txn.specs.Journal.{Journal, journal_of, joined, committed}
 use Rattle.signal_txn.specs.Seen.{Seen, IsGotIn, IsSetIn, IsCommitted, IsAborted}
+use Rattle.signal_txn.specs.Histories.{Keeps, KeepEach, first_merged}
+use Rattle.signal_txn.specs.Passing.{PassesOn}
 use Rattle.signal_txn.specs.Undo.{AreUndoable, ArePutBack}
 use Rattle.signal_txn.proofs.EntryLemmas.{IsExact}
+use Rattle.signal_txn.proofs.HistoryLemmas.{keeps_committed, keeps_dropped}
+use Rattle.signal_txn.proofs.PassingLemmas.{passes_committed}
+use Rattle.signal_txn.proofs.WrittenLemmas.{epoch_after, set_writes, set_diffs}
 use Rattle.signal_txn.proofs.UndoLemmas.{both_same, begun_set, begun_back, undoable_keeps, undoable_set, got_keeps}
 use Rattle.signal_txn.proofs.JournalLemmas.{reverse-map, reverse_last, joined_begun, committed_begun, joined_undoable, committed_undoable}
 
@@ -55,10 +60,18 @@ pub set_same_in : {R K V : Type 0} (m : Meaning K V) (cmp : K → K → Ordering
 set_same_in {R} {K} {V} m cmp x old new levels noted_ ring key v changes set no_ watches e = record {
   set = set;
   watches = watches;
-  joins = λ yes_. absurd (no_flags changes yes_ no_);
-  stays = λ h. ap (λ (ls : List (Level K V)). record { levels = ls; ring = ring }) (all_noted cmp key (atoms_of m cmp old.values.rows key) levels noted_ e);
+  joins = joins;
+  stays = stays;
   begun = set_begun m cmp x old new levels noted_ key v changes set e;
+  writes = set_writes m cmp (seen_of old levels ring) (seen_of new noted_ ring) key v changes set joins stays;
+  diffs = set_diffs m cmp (seen_of old levels ring) (seen_of new noted_ ring) key v changes set joins stays;
 }
+  where
+    joins : changes ≡ true → journal_of noted_ ring ≡ joined (record { key = key; value = v; epoch = new.values.epoch }) (map (noted cmp key (atoms_of m cmp old.values.rows key)) (reverse levels)) ring
+    joins yes_ = absurd (no_flags changes yes_ no_)
+
+    stays : changes ≡ false → journal_of noted_ ring ≡ record { levels = map (noted cmp key (atoms_of m cmp old.values.rows key)) (reverse levels); ring = ring }
+    stays h = ap (λ (ls : List (Level K V)). record { levels = ls; ring = ring }) (all_noted cmp key (atoms_of m cmp old.values.rows key) levels noted_ e)
 
 -- an atom was set to another value
 pub set_other_in : {R K V : Type 0} (m : Meaning K V) (cmp : K → K → Ordering) → IsExact cmp → (old new : core.Seen R K V) (levels noted_ all : List (Level K V)) (ring after : LastWrites K V) (key : K) (v value : V) (epoch : ℕ) (changes : Bool)
@@ -68,17 +81,25 @@ pub set_other_in : {R K V : Type 0} (m : Meaning K V) (cmp : K → K → Orderin
 set_other_in {R} {K} {V} m cmp x old new levels noted_ all ring after key v value epoch changes set yes_ watches e same now join = record {
   set = set;
   watches = watches;
-  joins = λ h.
-      join
-      ∙ ap (λ (w : V). joined (record { key = key; value = w; epoch = epoch }) (reverse noted_) ring) same
-      ∙ ap (λ (n : ℕ). joined (record { key = key; value = v; epoch = n }) (reverse noted_) ring) now
-      ∙ ap (λ (ls : List (Level K V)). joined (record { key = key; value = v; epoch = new.values.epoch }) ls ring) (all_noted cmp key (atoms_of m cmp old.values.rows key) levels noted_ e);
-  stays = λ no_. absurd (no_flags changes yes_ no_);
+  joins = joins;
+  stays = stays;
   begun =
       ap (λ (j : Journal K V). map (λ (l : Level K V). began_at cmp l (atoms_of m cmp new.values.rows)) j.levels) join
       ∙ joined_begun cmp (atoms_of m cmp new.values.rows) (record { key = key; value = value; epoch = epoch }) (reverse noted_) ring
       ∙ set_begun m cmp x old new levels noted_ key v changes set e;
+  writes = set_writes m cmp (seen_of old levels ring) (seen_of new all after) key v changes set joins stays;
+  diffs = set_diffs m cmp (seen_of old levels ring) (seen_of new all after) key v changes set joins stays;
 }
+  where
+    joins : changes ≡ true → journal_of all after ≡ joined (record { key = key; value = v; epoch = new.values.epoch }) (map (noted cmp key (atoms_of m cmp old.values.rows key)) (reverse levels)) ring
+    joins h =
+        join
+        ∙ ap (λ (w : V). joined (record { key = key; value = w; epoch = epoch }) (reverse noted_) ring) same
+        ∙ ap (λ (n : ℕ). joined (record { key = key; value = v; epoch = n }) (reverse noted_) ring) now
+        ∙ ap (λ (ls : List (Level K V)). joined (record { key = key; value = v; epoch = new.values.epoch }) ls ring) (all_noted cmp key (atoms_of m cmp old.values.rows key) levels noted_ e)
+
+    stays : changes ≡ false → journal_of all after ≡ record { levels = map (noted cmp key (atoms_of m cmp old.values.rows key)) (reverse levels); ring = ring }
+    stays no_ = absurd (no_flags changes yes_ no_)
 
 pub noted_undoable : {R K V : Type 0} (m : Meaning K V) (cmp : K → K → Ordering) → IsExact cmp → (old new : core.Seen R K V) (levels noted_ : List (Level K V)) (key : K) (v : V) (changes : Bool)
     → IsSet m cmp old.values new.values key v changes → m.rank key ≡ 0 → noted_ ≡ map_from (noted cmp key (atoms_of m cmp old.values.rows key)) 0 levels
@@ -100,6 +121,12 @@ commit_in {R} {K} {V} m cmp graph levels all ring after e = record {
   begun =
       ap (λ (j : Journal K V). map (λ (l : Level K V). began_at cmp l (atoms_of m cmp graph.values.rows)) j.levels) e
       ∙ committed_begun cmp (atoms_of m cmp graph.values.rows) (reverse levels) ring;
+  writes = λ below history keeps.
+      subst (λ (j : Journal K V). Keeps (first_merged history) j graph.values.epoch) (sym e)
+      (keeps_committed history (reverse levels) ring graph.values.epoch keeps);
+  diffs = λ turn since.
+      subst (λ (j : Journal K V). PassesOn first_merged (journal_of levels ring) j since) (sym e)
+      (passes_committed (reverse levels) ring graph.values.epoch since turn);
 }
 
 pub commit_undoable : {R K V : Type 0} (m : Meaning K V) (cmp : K → K → Ordering) (graph : core.Seen R K V) (levels all : List (Level K V)) (ring after : LastWrites K V)
@@ -123,6 +150,9 @@ abort_in {R} {K} {V} m cmp old new levels all ring level before is same back0 wa
       level = level;
       levels = top;
       ring = refl;
+      writes = λ below history keeps.
+          keeps_dropped history level (reverse levels) ring old.values.epoch new.values.epoch (epoch_after m cmp old.values new.values back.epoch back.changed)
+          (subst (λ (ls : List (Level K V)). KeepEach history ls ring old.values.epoch) top keeps);
       restored =
           ap (map (λ (l : Level K V). began_at cmp l (atoms_of m cmp old.values.rows))) top
           ∙ both_same _ _ _ _ (sym back.atoms) (sym (begun_back cmp level (atoms_of m cmp old.values.rows) (atoms_of m cmp new.values.rows) back.atoms (reverse levels) u.0.known));

@@ -1,6 +1,10 @@
 pub mod LastWrites
 pub mod Level
 pub mod Journal
+pub mod Diffs
+pub mod Turns
+pub mod Histories
+pub mod Passing
 pub mod Seen
 pub mod Undo
 pub mod Since

@@ -29,7 +29,8 @@ pub(crate) fn join<K: Ord + Drop, V: Drop>(
     levels: &mut Vec<Level<K, V>>,
     write: Write<K, V>,
 )
-    ensures { journal_of levels.new.items ring.new ≡ joined write (reverse levels.old.items) ring.old }
+    ensures { journal_of levels.new.items ring.new
+        ≡ joined write (reverse levels.old.items) ring.old }
 {
     let depth = levels.len();
     if depth == 0 {

@@ -68,7 +68,8 @@ impl<K: Ord + Drop, V: Drop> Level<K, V> {
 
     // Forgets what was noted of a key.
     pub(crate) fn forget(&mut self, key: &K)
-        ensures { self.new ≡ record self.old { before = remove_entry (is_at (K.cmp key.now)) self.old.before } }
+        ensures { self.new ≡ record self.old
+            { before = remove_entry (is_at (K.cmp key.now)) self.old.before } }
     {
         let _ = self.before.remove(key);
     }

@@ -7,6 +7,7 @@
 
 mod journal;
 mod last_writes;
+pub mod laws;
 mod level;
 mod noting;
 pub mod since;

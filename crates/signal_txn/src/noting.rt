@@ -14,7 +14,9 @@ use std::collections::BTreeMap;
 // A copy of the value of an atom.
 fn atom_copy<R: Rules + Drop>(alloc: Global, graph: &Graph<R>, key: &R::Key) -> Mem<R::Value>
     requires { (R.meaning graph.now.values.rules).rank key.now ≡ 0 }
-    ensures { IfOk result (λ v. v ≡ atoms_of (R.meaning graph.now.values.rules) R.Key.cmp graph.now.values.rows key.now) }
+    ensures { IfOk result
+        (λ v. v ≡ atoms_of (R.meaning graph.now.values.rules) R.Key.cmp graph.now.values.rows
+        key.now) }
 {
     match graph.atom(key) {
         Some(value) => graph.rules().copy_value(alloc, value),
@@ -32,7 +34,8 @@ fn note<R: Rules + Drop>(
     requires rank { (R.meaning graph.now.values.rules).rank key.now ≡ 0 }
     requires absent { value_before R.Key.cmp level.old key.now ≡ None }
     ensures ok { OnOk result (level.new ≡ noted R.Key.cmp key.now
-        (atoms_of (R.meaning graph.now.values.rules) R.Key.cmp graph.now.values.rows key.now) level.old) }
+        (atoms_of (R.meaning graph.now.values.rules) R.Key.cmp graph.now.values.rows key.now)
+        level.old) }
     ensures err { OnErr result (level.new ≡ level.old) }
 {
     let copy = graph.rules().copy_key(alloc, key)?;
@@ -56,9 +59,11 @@ pub(crate) fn set_noted<R: Rules + Drop>(
     requires rank { (R.meaning graph.old.values.rules).rank key.now ≡ 0 }
     requires from { from ≤ length levels.old.items }
     ensures ok { IfOk result
-        (IsSet (R.meaning graph.old.values.rules) R.Key.cmp graph.old.values graph.new.values key.now value) }
+        (IsSet (R.meaning graph.old.values.rules) R.Key.cmp graph.old.values graph.new.values
+        key.now value) }
     ensures noted { OnOk result (levels.new.items ≡ map_from (noted R.Key.cmp key.now
-        (atoms_of (R.meaning graph.old.values.rules) R.Key.cmp graph.old.values.rows key.now)) from levels.old.items) }
+        (atoms_of (R.meaning graph.old.values.rules) R.Key.cmp graph.old.values.rows key.now))
+        from levels.old.items) }
     ensures watches { graph.new.watches ≡ graph.old.watches }
     ensures graph_err { OnErr result (graph.new ≡ graph.old) }
     ensures levels_err { OnErr result (levels.new.items ≡ levels.old.items) }
@@ -87,8 +92,10 @@ pub(crate) fn put_back_all<R: Rules + Drop>(
 )
     requires atoms { (key : R.Key) → HasEntry R.Key.cmp before.entries key
         → (R.meaning graph.old.values.rules).rank key ≡ 0 }
-    requires listed { (key : R.Key) → HasEntry R.Key.cmp before.entries key → IsListed graph.old.values key }
-    ensures back { ArePutBack (R.meaning graph.old.values.rules) R.Key.cmp graph.old.values graph.new.values before.entries }
+    requires listed { (key : R.Key) → HasEntry R.Key.cmp before.entries key
+        → IsListed graph.old.values key }
+    ensures back { ArePutBack (R.meaning graph.old.values.rules) R.Key.cmp graph.old.values
+        graph.new.values before.entries }
     ensures watches { graph.new.watches ≡ graph.old.watches }
 {
     let epoch = graph.next_epoch();

@@ -8,9 +8,10 @@ ghost use Rattle.signal_core.specs.News.{AreNewsOf};
 ghost use Rattle.signal_core.specs.Watches.{IsLeastFree, IsWatched, IsFull, AddsWatch, DropsWatch};
 ghost use Rattle.signal_core.specs.declared.watch.WatchFault.{WatchFault as watch_fault};
 ghost use Rattle.signal_txn.specs.LastWrites.{no_writes};
+ghost use Rattle.signal_txn.specs.Histories.{History, Keeps};
 ghost use Rattle.signal_txn.specs.Level.{unwritten};
-ghost use Rattle.signal_txn.specs.Seen.{atoms_in, begun, IsGotIn, IsSetIn, IsCommitted, IsAborted};
-ghost use Rattle.signal_txn.specs.Since.{IsSince};
+ghost use Rattle.signal_txn.specs.Seen.{atoms_in, begun, KeepsOn, IsGotIn, IsSetIn, IsCommitted, IsAborted};
+ghost use Rattle.signal_txn.specs.Since.{IsSince, AreAllSince};
 
 use crate::journal::{begin, commit, join};
 use crate::last_writes::LastWrites;
@@ -47,7 +48,8 @@ impl<R: Rules + Drop> Model for Txn<R> {
 
     ghost view = { λ s. record { graph = s.graph; journal = journal_of s.levels.items s.ring } };
 
-    ghost invariant = { λ s. AreUndoable (R.meaning s.graph.values.rules) R.Key.cmp s.graph.values (reverse s.levels.items) };
+    ghost invariant = { λ s. AreUndoable (R.meaning s.graph.values.rules) R.Key.cmp s.graph.values
+        (reverse s.levels.items) };
 }
 
 impl<R: Rules + Drop> Txn<R> {
@@ -57,9 +59,12 @@ impl<R: Rules + Drop> Txn<R> {
     ///
     /// Memory was refused.
     pub fn new(alloc: Global, rules: R) -> Mem<Txn<R>>
-        ensures values { IfOk result (λ t. (t.graph.values.rules ≡ rules) × (t.graph.values.rows ≡ []) × (t.graph.values.epoch ≡ 0)) }
+        ensures values { IfOk result
+            (λ t. (t.graph.values.rules ≡ rules) × (t.graph.values.rows ≡ [])
+            × (t.graph.values.epoch ≡ 0)) }
         ensures watches { IfOk result (λ t. t.graph.watches ≡ []) }
         ensures journal { IfOk result (λ t. t.journal ≡ record { levels = []; ring = no_writes }) }
+        ensures writes { IfOk result (λ t. Keeps ([] ∷ []) t.journal t.graph.values.epoch) }
     {
         Ok(Txn {
             graph: Graph::new(alloc, rules)?,
@@ -79,7 +84,8 @@ impl<R: Rules + Drop> Txn<R> {
     pub fn atom(&self, key: &R::Key) -> Option<&R::Value>
         requires { (R.meaning self.now.graph.values.rules).rank key.now ≡ 0 }
         ensures found { IfSome result
-            (λ v. v.now ≡ atoms_in (R.meaning self.now.graph.values.rules) R.Key.cmp self.now key.now) }
+            (λ v. v.now ≡ atoms_in (R.meaning self.now.graph.values.rules) R.Key.cmp self.now
+            key.now) }
         ensures absent { IfNone result
             (atoms_in (R.meaning self.now.graph.values.rules) R.Key.cmp self.now key.now
             ≡ (R.meaning self.now.graph.values.rules).blank key.now) }
@@ -108,8 +114,10 @@ impl<R: Rules + Drop> Txn<R> {
     ) -> Mem<R::Value>
         ensures got { IsGotIn (R.meaning self.old.graph.values.rules) R.Key.cmp self.old self.new }
         ensures value { IfOk result
-            (λ v. v ≡ value_in (R.meaning self.old.graph.values.rules) R.Key.cmp self.old.graph.values key.now) }
-        ensures fresh { OnOk result (IsFreshKey self.new.graph.values.rows self.new.graph.values.fresh key.now) }
+            (λ v. v ≡ value_in (R.meaning self.old.graph.values.rules) R.Key.cmp
+            self.old.graph.values key.now) }
+        ensures fresh { OnOk result
+            (IsFreshKey self.new.graph.values.rows self.new.graph.values.fresh key.now) }
         ensures free { IsFreshIn self.old.graph.values key.now → steps.new ≡ steps.old }
     {
         self.graph.copied(alloc, key, steps)
@@ -122,7 +130,8 @@ impl<R: Rules + Drop> Txn<R> {
     /// `Full` exactly where 64 are watched, or `OutOfMemory`; then nothing changed.
     pub fn watch(&mut self, key: R::Key) -> Result<WatchId, WatchFault>
         ensures number { IfOk result (λ id. IsLeastFree self.old.graph.watches id.number) }
-        ensures ok { IfOk result (λ id. AddsWatch self.old.graph.watches self.new.graph.watches key id.number) }
+        ensures ok { IfOk result
+            (λ id. AddsWatch self.old.graph.watches self.new.graph.watches key id.number) }
         ensures values { self.new.graph.values ≡ self.old.graph.values }
         ensures journal { self.new.journal ≡ self.old.journal }
         ensures full { (result ≡ Err watch_fault.Full) ↔ IsFull self.old.graph.watches }
@@ -162,12 +171,15 @@ impl<R: Rules + Drop> Txn<R> {
         ensures news { IfOk result (λ news.
             AreNewsOf (R.meaning self.new.graph.values.rules) R.Key.cmp self.new.graph news) }
         ensures due { IfOk result (λ news.
-            AreDue (R.meaning self.old.graph.values.rules) R.Key.cmp self.old.graph news.due.items) }
+            AreDue (R.meaning self.old.graph.values.rules) R.Key.cmp self.old.graph
+            news.due.items) }
         ensures watches { self.new.graph.watches ≡ self.old.graph.watches }
-        ensures got { AreGot (R.meaning self.old.graph.values.rules) R.Key.cmp self.old.graph.values self.new.graph.values }
+        ensures got { AreGot (R.meaning self.old.graph.values.rules) R.Key.cmp self.old.graph.values
+            self.new.graph.values }
         ensures journal { self.new.journal ≡ self.old.journal }
         ensures fresh { OnOk result (AreFreshKeys self.old.graph.watches self.new.graph.values) }
-        ensures free { AreFreshIn self.old.graph.watches self.old.graph.values → steps.new ≡ steps.old }
+        ensures free { AreFreshIn self.old.graph.watches self.old.graph.values
+            → steps.new ≡ steps.old }
     {
         self.graph.news(alloc, steps)
     }
@@ -178,9 +190,11 @@ impl<R: Rules + Drop> Txn<R> {
     /// It takes no memory. It costs a look at each watch.
     pub fn tell(&mut self, news: News<R::Value>) -> Vec<(WatchId, R::Value)>
         requires closed { self.old.journal.levels ≡ [] }
-        requires news { AreNewsOf (R.meaning self.old.graph.values.rules) R.Key.cmp self.old.graph news }
+        requires news { AreNewsOf (R.meaning self.old.graph.values.rules) R.Key.cmp self.old.graph
+            news }
         ensures due { result.items ≡ news.due.items }
-        ensures told { AreTold (R.meaning self.old.graph.values.rules) R.Key.cmp self.old.graph self.new.graph.watches }
+        ensures told { AreTold (R.meaning self.old.graph.values.rules) R.Key.cmp self.old.graph
+            self.new.graph.watches }
         ensures values { self.new.graph.values ≡ self.old.graph.values }
         ensures journal { self.new.journal ≡ self.old.journal }
     {
@@ -203,14 +217,18 @@ impl<R: Rules + Drop> Txn<R> {
     ) -> Mem<Vec<(WatchId, R::Value)>>
         requires { self.old.journal.levels ≡ [] }
         ensures due { IfOk result
-            (λ due. AreDue (R.meaning self.old.graph.values.rules) R.Key.cmp self.old.graph due.items) }
+            (λ due. AreDue (R.meaning self.old.graph.values.rules) R.Key.cmp self.old.graph
+            due.items) }
         ensures told { OnOk result
-            (AreTold (R.meaning self.old.graph.values.rules) R.Key.cmp self.old.graph self.new.graph.watches) }
+            (AreTold (R.meaning self.old.graph.values.rules) R.Key.cmp self.old.graph
+            self.new.graph.watches) }
         ensures err { OnErr result (self.new.graph.watches ≡ self.old.graph.watches) }
-        ensures got { AreGot (R.meaning self.old.graph.values.rules) R.Key.cmp self.old.graph.values self.new.graph.values }
+        ensures got { AreGot (R.meaning self.old.graph.values.rules) R.Key.cmp self.old.graph.values
+            self.new.graph.values }
         ensures journal { self.new.journal ≡ self.old.journal }
         ensures fresh { OnOk result (AreFreshKeys self.old.graph.watches self.new.graph.values) }
-        ensures free { AreFreshIn self.old.graph.watches self.old.graph.values → steps.new ≡ steps.old }
+        ensures free { AreFreshIn self.old.graph.watches self.old.graph.values
+            → steps.new ≡ steps.old }
     {
         self.graph.due(alloc, steps)
     }
@@ -227,7 +245,8 @@ impl<R: Rules + Drop> Txn<R> {
     pub fn set(&mut self, alloc: Global, key: R::Key, value: R::Value) -> Mem<bool>
         requires { (R.meaning self.old.graph.values.rules).rank key ≡ 0 }
         ensures ok { IfOk result
-            (IsSetIn (R.meaning self.old.graph.values.rules) R.Key.cmp self.old self.new key value) }
+            (IsSetIn (R.meaning self.old.graph.values.rules) R.Key.cmp self.old self.new key
+            value) }
         ensures err { OnErr result (self.new ≡ self.old) }
     {
         let after = self.graph.rules().copy_value(alloc, &value)?;
@@ -257,10 +276,14 @@ impl<R: Rules + Drop> Txn<R> {
     ///
     /// `TooNested` exactly where 17 are open, or `OutOfMemory`; then none more is open.
     pub fn begin(&mut self, alloc: Global) -> Result<(), TxnFault>
-        ensures journal { OnOk result (self.new.journal ≡ record self.old.journal { levels = unwritten ∷ self.old.journal.levels }) }
-        ensures begun { OnOk result (begun (R.meaning self.old.graph.values.rules) R.Key.cmp self.new
+        ensures journal { OnOk result
+            (self.new.journal ≡ record self.old.journal
+            { levels = unwritten ∷ self.old.journal.levels }) }
+        ensures begun { OnOk result
+            (begun (R.meaning self.old.graph.values.rules) R.Key.cmp self.new
             ≡ atoms_in (R.meaning self.old.graph.values.rules) R.Key.cmp self.old
             ∷ begun (R.meaning self.old.graph.values.rules) R.Key.cmp self.old) }
+        ensures writes { OnOk result (KeepsOn (λ history. [] ∷ history) self.old self.new) }
         ensures graph { self.new.graph ≡ self.old.graph }
         ensures nested { (result ≡ Err TxnFault.TooNested) ↔ (17 ≤ length self.old.journal.levels) }
         ensures err { OnErr result (self.new ≡ self.old) }
@@ -303,7 +326,10 @@ impl<R: Rules + Drop> Txn<R> {
     ///
     /// Memory was refused.
     pub fn diffs_since(&self, alloc: Global, epoch: u64) -> Mem<Since<R::Key, R::Value>>
-        ensures { IfOk result (IsSince self.now epoch) }
+        ensures known { IfOk result (IsSince self.now epoch) }
+        ensures all { (history : History R.Key R.Value)
+            → Keeps history self.now.journal self.now.graph.values.epoch
+            → IfOk result (AreAllSince history epoch) }
     {
         let now = self.graph.epoch();
         if epoch < self.ring.dropped() || now < epoch || now == u64::MAX {
@@ -333,9 +359,16 @@ impl<R: Rules + Drop> Txn<R> {
         key: &R::Key,
         steps: &mut Steps<L>,
     ) -> Mem<&R::Value>
-        ensures* left { sem 𝓛 (follows_so (the_row R.row R.Key.row R.Value.row R.Rules R.Key.Ord.own R.Key.PartialEq R.Key.PartialOrd.own R.Value.PartialEq) (the_row R.row R.Key.row R.Value.row R.Rules R.Key.Ord.own R.Key.PartialEq R.Key.PartialOrd.own R.Value.PartialEq) self.entry.ghost_name none (λ _ _. ⊤) (λ s. IsGotIn (R.meaning self.old.graph.values.rules) R.Key.cmp self.old s × IfOk result (λ _. IsFreshKey s.graph.values.rows s.graph.values.fresh key.now))) }
+        ensures* left { sem 𝓛
+            (follows_so (the_row R.row R.Key.row R.Value.row R.Rules R.Key.Ord.own R.Key.PartialEq
+            R.Key.PartialOrd.own R.Value.PartialEq)
+            (the_row R.row R.Key.row R.Value.row R.Rules R.Key.Ord.own R.Key.PartialEq
+            R.Key.PartialOrd.own R.Value.PartialEq) self.entry.ghost_name none (λ _ _. ⊤)
+            (λ s. IsGotIn (R.meaning self.old.graph.values.rules) R.Key.cmp self.old s
+            × IfOk result (λ _. IsFreshKey s.graph.values.rows s.graph.values.fresh key.now))) }
         ensures value { IfOk result
-            (λ v. v.now ≡ value_in (R.meaning self.old.graph.values.rules) R.Key.cmp self.old.graph.values key.now) }
+            (λ v. v.now ≡ value_in (R.meaning self.old.graph.values.rules) R.Key.cmp
+            self.old.graph.values key.now) }
         ensures free { IsFreshIn self.old.graph.values key.now → steps.new ≡ steps.old }
     {
         self.graph.get(alloc, key, steps)
