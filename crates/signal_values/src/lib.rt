@@ -8,6 +8,7 @@
 
 mod cells;
 mod mark;
+mod parents;
 mod rows;
 mod run;
 pub mod values;

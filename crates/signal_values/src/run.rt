@@ -5,6 +5,7 @@ ghost use Rattle.signal_values.specs.Kept.{IsLeft, IsFreshAt, IsFreshKey, IsRead
 ghost use Rattle.signal_values.specs.Whole.{IsWhole, RunsTo};
 
 use crate::cells::{Cells, Row};
+use crate::parents::{Parents, note_parent};
 use crate::rows::{add_row, connect, find, fresh_place, renew};
 use rooms_val::{Mem, Steps};
 use signal_rules::{Ask, Rules};
@@ -149,7 +150,7 @@ fn take_answer<R: Rules>(
     cells: &Cells<R::Key, R::Value>,
     parent: usize,
     got: &mut Vec<R::Value>,
-    parents: &mut Vec<usize>,
+    parents: &mut Parents,
 ) -> Mem<()>
     requires { parent < length cells.now.rows.items }
     ensures got { OnOk result (IfSome (slice_get cells.now.rows.items parent)
@@ -158,8 +159,7 @@ fn take_answer<R: Rules>(
 {
     let value = rules.copy_value(alloc, &cells.rows[parent].value)?;
     got.push(value)?;
-    parents.push(parent)?;
-    Ok(())
+    note_parent(parents, parent)
 }
 
 // The row of a key, computed unless it is fresh.
@@ -183,10 +183,13 @@ pub(crate) fn refresh<R: Rules, L: Ledger>(
         return read_atom(alloc, rules, cells, epoch, key);
     }
     let mut got = Vec::new(alloc);
-    let mut parents = Vec::new(alloc);
+    let mut parents = Parents::new(alloc);
     'asks: loop {
         match rules.ask(alloc, key, &got, steps)? {
-            Ask::Done(value) => return settle(alloc, rules, cells, epoch, key, value, &parents),
+            Ask::Done(value) => {
+                let parents = parents.as_slice();
+                return settle(alloc, rules, cells, epoch, key, value, parents);
+            }
             Ask::Need(next) => {
                 let parent = refresh(alloc, rules, cells, epoch, &next, steps)?;
                 take_answer(alloc, rules, cells, parent, &mut got, &mut parents)?;

@@ -89,5 +89,5 @@ settle-requires-clause-run g t c =
     let above : 0 < m.rank c.args.key.now = omega (arith, c.rank.ensures, c.if-rank-eq0.false) in
     let run = asking_done m atoms (g.met.R.Rules.lawful c.args.rules.now) c.asks.cells.rows.items c.asks.cells.fresh.items c.args.key.now c.asks.got.items c.asks.parents.items c.in-Done.value above c.asks.invariant.asking done in
     let same = atoms_same m cmp x c.asks.cells.rows.items atoms c.asks.invariant.left.sound.graph.atoms_are in
-    subst (λ (ps : List ℕ). HasRun m (atoms_of m cmp c.asks.cells.rows.items) c.asks.cells.rows.items c.asks.cells.fresh.items c.args.key.now c.in-Done.value ps) (sym c.deref-in-Done.ensures.value)
+    subst (λ (ps : List ℕ). HasRun m (atoms_of m cmp c.asks.cells.rows.items) c.asks.cells.rows.items c.asks.cells.fresh.items c.args.key.now c.in-Done.value ps) (sym c.as_slice-parents.ensures)
     (subst (λ (a : g.row.R-Key.Denot → g.row.R-Value.Denot). HasRun m a c.asks.cells.rows.items c.asks.cells.fresh.items c.args.key.now c.in-Done.value c.asks.parents.items) (sym same) run)
