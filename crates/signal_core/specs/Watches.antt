@@ -1,7 +1,10 @@
 -- Watches by number.
 use Rattle.std.specs.Prelude.{◌≡◌, ◌≢◌, ℕ, ◌<◌, List, slice_index_or, Option, Some, None, IsSome, IsNone}
 use Rattle.signal_core.specs.declared.watch.Watch.{Watch}
-use Rattle.signal_core.specs.declared.watch.TheConstants.{MOST_WATCHES}
+
+-- how many keys may be watched
+abbrev pub most_watches : ℕ
+most_watches = 64
 
 -- the watch of a number
 abbrev pub watch_at : {K V : Type 0} → List (Option (Watch K V)) → ℕ → Option (Watch K V)
@@ -13,7 +16,7 @@ IsWatched watches number = IsSome (watch_at watches number)
 
 -- there are as many watches as may be: each number has one
 abbrev pub IsFull : {K V : Type 0} → List (Option (Watch K V)) → Type 0
-IsFull watches = (number : ℕ) → number < MOST_WATCHES → IsWatched watches number
+IsFull watches = (number : ℕ) → number < most_watches → IsWatched watches number
 
 -- the least number that isn't watched
 pub record IsLeastFree {K V : Type 0} (watches : List (Option (Watch K V))) (number : ℕ) : Type 0 where

@@ -29,14 +29,14 @@ pub struct Graph<R: Rules + Drop> {
 
 impl<R: Rules + Drop> Model for Graph<R> {
     ghost use Rattle.std.specs.Prelude.{◌≤◌, length};
-    ghost use Rattle.signal_core.specs.declared.watch.TheConstants.{MOST_WATCHES};
+    ghost use Rattle.signal_core.specs.Watches.{most_watches};
     ghost use Rattle.signal_core.specs.Seen.{Seen};
 
     ghost Value = { Seen R R.Key R.Value };
 
     ghost view = { λ s. record { values = s.values; watches = s.watches.items } };
 
-    ghost invariant = { λ s. length s.watches.items ≤ MOST_WATCHES };
+    ghost invariant = { λ s. length s.watches.items ≤ most_watches };
 }
 
 impl<R: Rules + Drop> Graph<R> {
@@ -46,7 +46,8 @@ impl<R: Rules + Drop> Graph<R> {
     ///
     /// Memory was refused.
     pub fn new(alloc: Global, rules: R) -> Mem<Graph<R>>
-        ensures values { IfOk result (λ g. (g.values.rules ≡ rules) × (g.values.rows ≡ []) × (g.values.epoch ≡ 0)) }
+        ensures values { IfOk result
+            (λ g. (g.values.rules ≡ rules) × (g.values.rows ≡ []) × (g.values.epoch ≡ 0)) }
         ensures watches { IfOk result (λ g. g.watches ≡ []) }
     {
         Ok(Graph {
@@ -80,7 +81,8 @@ impl<R: Rules + Drop> Graph<R> {
     pub fn atom(&self, key: &R::Key) -> Option<&R::Value>
         requires { (R.meaning self.now.values.rules).rank key.now ≡ 0 }
         ensures found { IfSome result
-            (λ v. v.now ≡ atoms_of (R.meaning self.now.values.rules) R.Key.cmp self.now.values.rows key.now) }
+            (λ v. v.now ≡ atoms_of (R.meaning self.now.values.rules) R.Key.cmp self.now.values.rows
+            key.now) }
         ensures absent { IfNone result
             (atoms_of (R.meaning self.now.values.rules) R.Key.cmp self.now.values.rows key.now
             ≡ (R.meaning self.now.values.rules).blank key.now) }
@@ -107,7 +109,8 @@ impl<R: Rules + Drop> Graph<R> {
     pub fn set(&mut self, alloc: Global, key: R::Key, value: R::Value) -> Mem<bool>
         requires { (R.meaning self.old.values.rules).rank key ≡ 0 }
         ensures ok { IfOk result
-            (IsSet (R.meaning self.old.values.rules) R.Key.cmp self.old.values self.new.values key value) }
+            (IsSet (R.meaning self.old.values.rules) R.Key.cmp self.old.values self.new.values key
+            value) }
         ensures watches { self.new.watches ≡ self.old.watches }
         ensures err { OnErr result (self.new ≡ self.old) }
         ensures sure { IsListed self.old.values key → IsOk result }
@@ -124,7 +127,8 @@ impl<R: Rules + Drop> Graph<R> {
         requires epoch { IsNowOrNext self.old.values.epoch epoch }
         ensures before { result
             ≡ atoms_of (R.meaning self.old.values.rules) R.Key.cmp self.old.values.rows key.now }
-        ensures set { IsPutBack (R.meaning self.old.values.rules) R.Key.cmp self.old.values self.new.values key.now value epoch }
+        ensures set { IsPutBack (R.meaning self.old.values.rules) R.Key.cmp self.old.values
+            self.new.values key.now value epoch }
         ensures watches { self.new.watches ≡ self.old.watches }
     {
         self.values.put_back(key, value, epoch)
@@ -141,11 +145,14 @@ impl<R: Rules + Drop> Graph<R> {
         key: &R::Key,
         steps: &mut Steps<L>,
     ) -> Mem<R::Value>
-        ensures got { IsGot (R.meaning self.old.values.rules) R.Key.cmp self.old.values self.new.values }
+        ensures got { IsGot (R.meaning self.old.values.rules) R.Key.cmp self.old.values
+            self.new.values }
         ensures watches { self.new.watches ≡ self.old.watches }
         ensures value { IfOk result
-            (λ v. v ≡ value_in (R.meaning self.old.values.rules) R.Key.cmp self.old.values key.now) }
-        ensures fresh { OnOk result (IsFreshKey self.new.values.rows self.new.values.fresh key.now) }
+            (λ v. v ≡ value_in (R.meaning self.old.values.rules) R.Key.cmp self.old.values
+            key.now) }
+        ensures fresh { OnOk result
+            (IsFreshKey self.new.values.rows self.new.values.fresh key.now) }
         ensures free { IsFreshIn self.old.values key.now → steps.new ≡ steps.old }
     {
         self.values.copied(alloc, key, steps)
@@ -206,7 +213,8 @@ impl<R: Rules + Drop> Graph<R> {
         ensures due { IfOk result
             (λ news. AreDue (R.meaning self.old.values.rules) R.Key.cmp self.old news.due.items) }
         ensures watches { self.new.watches ≡ self.old.watches }
-        ensures got { AreGot (R.meaning self.old.values.rules) R.Key.cmp self.old.values self.new.values }
+        ensures got { AreGot (R.meaning self.old.values.rules) R.Key.cmp self.old.values
+            self.new.values }
         ensures fresh { OnOk result (AreFreshKeys self.old.watches self.new.values) }
         ensures free { AreFreshIn self.old.watches self.old.values → steps.new ≡ steps.old }
     {
@@ -220,7 +228,8 @@ impl<R: Rules + Drop> Graph<R> {
     pub fn tell(&mut self, news: News<R::Value>) -> Vec<(WatchId, R::Value)>
         requires { AreNewsOf (R.meaning self.old.values.rules) R.Key.cmp self.old news }
         ensures due { result.items ≡ news.due.items }
-        ensures told { AreTold (R.meaning self.old.values.rules) R.Key.cmp self.old self.new.watches }
+        ensures told { AreTold (R.meaning self.old.values.rules) R.Key.cmp self.old
+            self.new.watches }
         ensures values { self.new.values ≡ self.old.values }
     {
         let News { due, told } = news;
@@ -247,7 +256,8 @@ impl<R: Rules + Drop> Graph<R> {
         ensures told { OnOk result
             (AreTold (R.meaning self.old.values.rules) R.Key.cmp self.old self.new.watches) }
         ensures err { OnErr result (self.new.watches ≡ self.old.watches) }
-        ensures got { AreGot (R.meaning self.old.values.rules) R.Key.cmp self.old.values self.new.values }
+        ensures got { AreGot (R.meaning self.old.values.rules) R.Key.cmp self.old.values
+            self.new.values }
         ensures fresh { OnOk result (AreFreshKeys self.old.watches self.new.values) }
         ensures free { AreFreshIn self.old.watches self.old.values → steps.new ≡ steps.old }
     {
@@ -276,9 +286,17 @@ impl<R: Rules + Drop> Graph<R> {
         key: &R::Key,
         steps: &mut Steps<L>,
     ) -> Mem<&R::Value>
-        ensures* left { sem 𝓛 (follows_so (the_row R.row R.Key.row R.Value.row R.Rules R.Key.Ord.own R.Key.PartialEq R.Key.PartialOrd.own R.Value.PartialEq) (the_row R.row R.Key.row R.Value.row R.Rules R.Key.Ord.own R.Key.PartialEq R.Key.PartialOrd.own R.Value.PartialEq) self.entry.ghost_name none (λ _ _. ⊤) (λ s. IsGot (R.meaning self.old.values.rules) R.Key.cmp self.old.values s.values × (s.watches ≡ self.old.watches) × IfOk result (λ _. IsFreshKey s.values.rows s.values.fresh key.now))) }
+        ensures* left { sem 𝓛
+            (follows_so (the_row R.row R.Key.row R.Value.row R.Rules R.Key.Ord.own R.Key.PartialEq
+            R.Key.PartialOrd.own R.Value.PartialEq)
+            (the_row R.row R.Key.row R.Value.row R.Rules R.Key.Ord.own R.Key.PartialEq
+            R.Key.PartialOrd.own R.Value.PartialEq) self.entry.ghost_name none (λ _ _. ⊤)
+            (λ s. IsGot (R.meaning self.old.values.rules) R.Key.cmp self.old.values s.values
+            × (s.watches ≡ self.old.watches)
+            × IfOk result (λ _. IsFreshKey s.values.rows s.values.fresh key.now))) }
         ensures value { IfOk result
-            (λ v. v.now ≡ value_in (R.meaning self.old.values.rules) R.Key.cmp self.old.values key.now) }
+            (λ v. v.now ≡ value_in (R.meaning self.old.values.rules) R.Key.cmp self.old.values
+            key.now) }
         ensures free { IsFreshIn self.old.values key.now → steps.new ≡ steps.old }
     {
         self.values.get(alloc, key, steps)

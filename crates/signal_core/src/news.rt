@@ -3,10 +3,10 @@ ghost use Rattle.std.specs.Prelude.{◌≡◌, ◌≢◌, ◌<◌, ◌≤◌, tr
 ghost use Rattle.std.specs.Option.{option_map_or};
 ghost use Rattle.signal_values.specs.Seen.{value_in, IsFreshIn};
 ghost use Rattle.signal_values.specs.Kept.{IsFreshKey};
-ghost use Rattle.signal_core.specs.declared.watch.TheConstants.{MOST_WATCHES};
 ghost use Rattle.signal_core.specs.Gots.{AreGot};
 ghost use Rattle.signal_core.specs.Due.{AreFreshKeys, AreFreshIn};
 ghost use Rattle.signal_core.specs.News.{AddsNews, AreNews, told_slot, AreToldBy};
+ghost use Rattle.signal_core.specs.Watches.{most_watches};
 
 use crate::watch::{Watch, WatchId};
 use rooms_val::{Mem, Steps};
@@ -51,9 +51,11 @@ fn differs<R: Rules + Drop, L: Ledger>(
 ) -> Mem<bool>
     ensures got { AreGot (R.meaning values.old.rules) R.Key.cmp values.old values.new }
     ensures same { IfOk result (λ differs. differs ≡ false
-        → watch.now.told ≡ Some (value_in (R.meaning values.old.rules) R.Key.cmp values.old watch.now.key)) }
+        → watch.now.told
+        ≡ Some (value_in (R.meaning values.old.rules) R.Key.cmp values.old watch.now.key)) }
     ensures differs { IfOk result (λ differs. differs ≡ true
-        → watch.now.told ≢ Some (value_in (R.meaning values.old.rules) R.Key.cmp values.old watch.now.key)) }
+        → watch.now.told
+        ≢ Some (value_in (R.meaning values.old.rules) R.Key.cmp values.old watch.now.key)) }
     ensures fresh { OnOk result (IsFreshKey values.new.rows values.new.fresh watch.now.key) }
     ensures free { IsFreshIn values.old watch.now.key → steps.new ≡ steps.old }
 {
@@ -69,12 +71,14 @@ fn add_news<R: Rules + Drop, L: Ledger>(
     news: &mut News<R::Value>,
     steps: &mut Steps<L>,
 ) -> Mem<()>
-    requires { length news.old.told.items < MOST_WATCHES }
+    requires { length news.old.told.items < most_watches }
     ensures got { AreGot (R.meaning values.old.rules) R.Key.cmp values.old values.new }
     ensures ok { OnOk result
         (AddsNews (R.meaning values.old.rules) R.Key.cmp values.old slot.now news.old news.new) }
-    ensures fresh { OnOk result (IfSome slot.now (λ watch. IsFreshKey values.new.rows values.new.fresh watch.key)) }
-    ensures free { IfSome slot.now (λ watch. IsFreshIn values.old watch.key) → steps.new ≡ steps.old }
+    ensures fresh { OnOk result
+        (IfSome slot.now (λ watch. IsFreshKey values.new.rows values.new.fresh watch.key)) }
+    ensures free { IfSome slot.now (λ watch. IsFreshIn values.old watch.key)
+        → steps.new ≡ steps.old }
 {
     let Some(watch) = slot else {
         news.told.push(None)?;
@@ -99,10 +103,11 @@ pub(crate) fn find_news<R: Rules + Drop, L: Ledger>(
     watches: &[Option<Watch<R::Key, R::Value>>],
     steps: &mut Steps<L>,
 ) -> Mem<News<R::Value>>
-    requires { length watches.now ≤ MOST_WATCHES }
+    requires { length watches.now ≤ most_watches }
     ensures got { AreGot (R.meaning values.old.rules) R.Key.cmp values.old values.new }
     ensures news { IfOk result (λ news.
-        AreNews (R.meaning values.old.rules) R.Key.cmp values.old watches.now news.told.items news.due.items) }
+        AreNews (R.meaning values.old.rules) R.Key.cmp values.old watches.now news.told.items
+        news.due.items) }
     ensures length { IfOk result (λ news. length news.told.items ≡ length watches.now) }
     ensures fresh { OnOk result (AreFreshKeys watches.now values.new) }
     ensures free { AreFreshIn watches.now values.old → steps.new ≡ steps.old }
