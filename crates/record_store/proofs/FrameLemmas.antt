@@ -15,8 +15,9 @@ use Rattle.tl_rules.specs.Meaning.{tl_meaning}
 use Rattle.tl_rules.specs.declared.key.TlKey.{TlKey}
 use Rattle.tl_rules.specs.declared.rules.TlRules.{TlRules}
 use Rattle.tl_rules.specs.declared.value.TlValue.{TlValue}
-use Rattle.record_store.specs.Lists.{Board, atoms_of, Leads, ChangesOnly}
+use Rattle.record_store.specs.Lists.{Board, atoms_of, Leads, IsNewest, ChangesOnly}
 use Rattle.record_store.proofs.LeadLemmas.{set_turned, set_told}
+use Rattle.record_store.proofs.NewestLemmas.{newest_joined, newest_noted}
 
 pub in_turn : (P : TlKey → Type 0) (a b c : Board) → ChangesOnly P a b → ChangesOnly P b c → ChangesOnly P a c
 in_turn P a b c first next = record {
@@ -32,8 +33,13 @@ in_turn P a b c first next = record {
   told = λ none since m n before turned below leads.
       next.told none since m n (le_trans before first.epoch) (first.order (below_before next.epoch below) turned) below
       (first.told none since m n before turned (below_before next.epoch below) leads);
+  adds = λ w is. earlier (next.adds w is) (first.adds w);
 }
   where
+    earlier : {A B C : Type 0} → B ⊎ C → (B → A ⊎ C) → A ⊎ C
+    earlier (inl b) f = f b
+    earlier (inr c) f = inr c
+
     below_before : {x y : ℕ} → x ≤ y → y < top → x < top
     below_before less below = omega arith
 
@@ -53,7 +59,12 @@ wider P Q old new in_ change = record {
   met = λ k atom none. change.met k atom (λ x p. none x (in_ x p));
   order = change.order;
   told = λ none. change.told (λ k p. none k (in_ k p));
+  adds = λ w is. or_these w (change.adds w is);
 }
+  where
+    or_these : {A : Type 0} (w : Write TlKey TlValue) → A ⊎ P w.key → A ⊎ Q w.key
+    or_these w (inl a) = inl a
+    or_these w (inr p) = inr (in_ w.key p)
 
 joined_levels : (w : Write TlKey TlValue) (ls : List (Level TlKey TlValue)) (ring : LastWrites TlKey TlValue) → length (joined w ls ring).levels ≡ length ls
 joined_levels w [] ring = refl
@@ -86,6 +97,7 @@ epoch_after old new (inr other) once = omega (arith, not_fallen old.epoch, ((onc
 pub set_changes : (old new : Board) (key : TlKey) (v : TlValue) (changes : Bool) → IsSetIn tl_meaning key_cmp old new key v changes → ChangesOnly (λ k. k ≡ key) old new
 set_changes old new key v changes set =
     let note = noted key_cmp key (atoms_of old key) in
+    let write : Write TlKey TlValue = record { key = key; value = v; epoch = new.graph.values.epoch } in
     record {
       others = λ k apart. set.set.others k apart;
       begun = set.begun;
@@ -106,8 +118,17 @@ set_changes old new key v changes set =
       met = λ k atom none meets. (stays tl_meaning (atoms_of old) (atoms_of new) key (λ x at ne. sym (set.set.others x ne)) k (none key refl)).met atom meets;
       order = λ below turned. set_turned old new key v changes set below turned;
       told = λ none since m n before turned below leads. either (λ told_. subst (λ x. Leads since m x new) (none key refl n v) told_) (λ kept. kept.0) (set_told old new key v changes set below turned since m n before leads);
+      adds = λ w is. (elim changes as (λ b. changes ≡ b → IsNewest old.journal.levels w ⊎ (w.key ≡ key)) [
+        | true ↦ λ joins. this write w refl (newest_joined write w (map note old.journal.levels) old.journal.ring (subst (λ j. IsNewest j.levels w) (set.joins joins) is))
+        | false ↦ λ stays_. inl (newest_noted key (atoms_of old key) w old.journal.levels (subst (λ j. IsNewest j.levels w) (set.stays stays_) is))
+      ]) refl;
     }
   where
+    this : (u w : Write TlKey TlValue) → u.key ≡ key → IsNewest (map (noted key_cmp key (atoms_of old key)) old.journal.levels) w ⊎ (u ≡ w)
+        → IsNewest old.journal.levels w ⊎ (w.key ≡ key)
+    this u w is (inl before) = inl (newest_noted key (atoms_of old key) w old.journal.levels before)
+    this u w is (inr same) = inr (ap (λ (x : Write TlKey TlValue). x.key) (sym same) ∙ is)
+
     either : {A B C : Type 0} → (A → C) → (B → C) → A ⊎ B → C
     either f g (inl a) = f a
     either f g (inr b) = g b

@@ -1,6 +1,7 @@
 pub mod RecordLemmas
 pub mod FrameLemmas
 pub mod LeadLemmas
+pub mod NewestLemmas
 pub mod ListLemmas
 pub mod CallLemmas
 pub mod TreeLemmas

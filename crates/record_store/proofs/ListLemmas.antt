@@ -1,5 +1,5 @@
 -- The lists of a board, once an id was taken out of one or put into one.
-use Rattle.std.proofs.Common.{◌≡◌, ◌≢◌, ℕ, ◌<◌, List, length, Option, None, Some, insert, inl, inr, refl, sym, ap, subst, ◌∙◌}
+use Rattle.std.proofs.Common.{◌≡◌, ◌≢◌, ◌⊎◌, ℕ, ◌<◌, Bool, true, false, List, length, Option, None, Some, insert, inl, inr, refl, sym, ap, subst, ◌∙◌}
 use Rattle.std.specs.List.{remove}
 use Rattle.std.specs.List.Sorted.{IsPartitionedBy}
 use Rattle.rooms_val.specs.Data.{Data, Pairs}
@@ -58,8 +58,11 @@ records_apart l id q None h = h
 records_apart l id q (Some d) h = no_record l h.0 q h.2
 
 pub records_unmoved : (l : Listing) (id q : List ℕ) (before after : Option Data) → IsMoved l id before after (key.Rec q) → ⊥
-records_unmoved l id q before after (inl h) = records_apart l id q before h
-records_unmoved l id q before after (inr h) = records_apart l id q after h
+records_unmoved l id q before after h = at h.1
+  where
+    at : IsListOf l id before (key.Rec q) ⊎ IsListOf l id after (key.Rec q) → ⊥
+    at (inl one) = records_apart l id q before one
+    at (inr one) = records_apart l id q after one
 
 -- a list of another kind stays
 list_apart : (l k : Listing) (id owner : List ℕ) (o : Option Data) → (l ≢ k) → IsListOf l id o (key_of k owner) → ⊥
@@ -69,9 +72,9 @@ list_apart l k id owner (Some d) apart h = apart (sym (kinds k l owner h.0 h.2))
 pub lists_unmoved : (l k : Listing) (id : List ℕ) (before after : Option Data) (old new : Board) (m : Pairs) → (l ≢ k) → AreLists k old m
     → ChangesOnly (IsMoved l id before after) old new → AreLists k new m
 lists_unmoved l k id before after old new m apart lists change owner =
-    change.others (key_of k owner) (λ moved. away moved) ∙ lists owner
+    change.others (key_of k owner) (λ moved. away moved.1) ∙ lists owner
   where
-    away : IsMoved l id before after (key_of k owner) → ⊥
+    away : IsListOf l id before (key_of k owner) ⊎ IsListOf l id after (key_of k owner) → ⊥
     away (inl h) = list_apart l k id owner before apart h
     away (inr h) = list_apart l k id owner after apart h
 
@@ -142,6 +145,10 @@ pub each_kind : (P : Listing → Type 0) → P Children → P BoundFrom → P Bo
 each_kind P c f t Children = c
 each_kind P c f t BoundFrom = f
 each_kind P c f t BoundTo = t
+
+-- what is not found to stand alike doesn't
+pub not_alike : {A : Type 0} (b : Bool) → (A → b ≡ true) → b ≡ false → A → ⊥
+not_alike b finds is a = let yes_ = finds a in cc
 
 -- the kinds are apart
 pub children_from : Children ≢ BoundFrom

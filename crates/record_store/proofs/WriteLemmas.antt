@@ -12,7 +12,7 @@ use Rattle.board_lists.specs.declared.listing.Listing.{Listing}
 use Rattle.board_lists.specs.declared.listing.Listing.TheVariants.{Children, BoundFrom, BoundTo}
 use Rattle.board_lists.specs.Listings.{key_of}
 use Rattle.record_store.specs.Kept.{IsBoard}
-use Rattle.record_store.specs.Lists.{Board, atoms_of, records_of, AreLists, IsListOf, IsMoved, IsRelisted, IsWritten, AreNoRecords, Leads, IsTold, AreTold, ChangesOnly}
+use Rattle.record_store.specs.Lists.{Board, atoms_of, records_of, AreLists, IsListOf, IsRelisted, IsWritten, AreNoRecords, Leads, IsTold, AreTold, ChangesOnly}
 use Rattle.signal_values.specs.Seen.{top}
 use Rattle.record_store.specs.Seen.{Keys, AreKeys}
 use Rattle.record_store.specs.Turns.{written_under}
@@ -31,9 +31,9 @@ one_no_record l id (Some d) k h n v = subst (λ x. written_under n x v ≡ n) (s
 
 -- no list is a record
 lists_no_records : (id : List ℕ) (before after : Option Data) → AreNoRecords (IsRelisted id before after)
-lists_no_records id before after k h n v = at h.0 h.1
+lists_no_records id before after k h n v = at h.0 h.1.1
   where
-    at : (l : Listing) → IsMoved l id before after k → written_under n k v ≡ n
+    at : (l : Listing) → IsListOf l id before k ⊎ IsListOf l id after k → written_under n k v ≡ n
     at l (inl h) = one_no_record l id before k h n v
     at l (inr h) = one_no_record l id after k h n v
 

@@ -1,8 +1,9 @@
 -- The lists of a board as atoms, and what a change of records leaves.
-use Rattle.std.specs.Prelude.{◌≡◌, ◌≢◌, ◌⊎◌, ℕ, ◌<◌, ◌≤◌, List, [], ◌∷◌, length, Option, None, Some}
+use Rattle.std.specs.Prelude.{◌≡◌, ◌≢◌, ◌⊎◌, ℕ, ◌<◌, ◌≤◌, List, [], ◌∷◌, length, Option, None, Some, Contains}
 use Rattle.rooms_val.specs.Data.{Data, Pairs}
 use Rattle.shape_tree.specs.Trees.{Sibling}
 use Rattle.signal_rules.specs.Values.{Meets}
+use Rattle.signal_txn.specs.declared.write.Write.{Write}
 use Rattle.signal_txn.specs.Level.{Level}
 use Rattle.signal_txn.specs.Seen as txn
 use Rattle.signal_txn.specs.Since.{diffs_after}
@@ -16,7 +17,7 @@ use Rattle.tl_rules.specs.declared.rules.TlRules.{TlRules}
 use Rattle.tl_rules.specs.declared.value.TlValue.{TlValue}
 use Rattle.tl_rules.specs.declared.value.TlValue.TheVariants as value
 use Rattle.board_lists.specs.declared.listing.Listing.{Listing}
-use Rattle.board_lists.specs.Listings.{owner_of, listed, key_of}
+use Rattle.board_lists.specs.Listings.{owner_of, index_of, listed, key_of}
 use Rattle.record_store.specs.Seen.{Keys, records_under}
 use Rattle.record_store.specs.Turns.{AreInTurn, written_under, written_all}
 
@@ -48,15 +49,27 @@ abbrev pub IsListOf : Listing → List ℕ → Option Data → TlKey → Type 0
 IsListOf l id None k = ⊥
 IsListOf l id (Some d) k = (owner : List ℕ) × (owner_of l (id, d) ≡ Some owner) × (k ≡ key_of l owner)
 
--- the key is that of a list that a record leaves or joins
+-- two records stand alike under an id: in the list of one owner, by one index
+pub record StandAlike (l : Listing) (id : List ℕ) (d e : Data) : Type 0 where
+  pub owner : owner_of l (id, d) ≡ owner_of l (id, e)
+  pub index : index_of l d ≡ index_of l e
+
+-- a record stands otherwise after a write than before: by another owner or index, or on one side alone
+abbrev pub StandsOtherwise : Listing → List ℕ → Option Data → Option Data → Type 0
+StandsOtherwise l id None None = ⊥
+StandsOtherwise l id None (Some d) = Unit {0}
+StandsOtherwise l id (Some d) None = Unit {0}
+StandsOtherwise l id (Some d) (Some e) = StandAlike l id d e → ⊥
+
+-- the key is that of a list that a record leaves or joins, or in which the record gets another place
 abbrev pub IsMoved : Listing → List ℕ → Option Data → Option Data → TlKey → Type 0
-IsMoved l id before after k = IsListOf l id before k ⊎ IsListOf l id after k
+IsMoved l id before after k = StandsOtherwise l id before after × (IsListOf l id before k ⊎ IsListOf l id after k)
 
 -- so of any kind of lists
 abbrev pub IsRelisted : List ℕ → Option Data → Option Data → TlKey → Type 0
 IsRelisted id before after k = (l : Listing) × IsMoved l id before after k
 
--- the key is that of a record or of a list that the record leaves or joins
+-- the key is that of a record or of a list in which the record doesn't stand as before
 abbrev pub IsWritten : List ℕ → Option Data → Option Data → TlKey → Type 0
 IsWritten id before after k = (k ≡ key.Rec id) ⊎ IsRelisted id before after k
 
@@ -94,17 +107,48 @@ AreTold keys old new = (since : ℕ) (m : Pairs) → since ≤ old.graph.values.
 abbrev pub AreNoRecords : (TlKey → Type 0) → Type 0
 AreNoRecords IsChanged = (k : TlKey) → IsChanged k → (n : Pairs) (v : TlValue) → written_under n k v ≡ n
 
--- only these atoms changed; watches and where transactions began are as they were, and what was committed is, if one is open.
--- The epoch doesn't fall, and a fresh key whose run meets none of these atoms stays fresh and meets no further one. Writes stand
--- in their order, and lead where they led if they are no records
+-- all atoms but these are as they were
+abbrev pub KeepsOthers : (TlKey → Type 0) → Board → Board → Type 0
+KeepsOthers IsChanged old new = (k : TlKey) → (IsChanged k → ⊥) → atoms_of new k ≡ atoms_of old k
+
+-- a fresh key whose run meets none of these atoms stays fresh
+abbrev pub KeepsFresh : (TlKey → Type 0) → Board → Board → Type 0
+KeepsFresh IsChanged old new = (k : TlKey) → IsFreshIn old k → MeetsNone IsChanged old k → IsFreshIn new k
+
+-- a run that met none of these atoms meets no further one
+abbrev pub MeetsNoFurther : (TlKey → Type 0) → Board → Board → Type 0
+MeetsNoFurther IsChanged old new = (k atom : TlKey) → MeetsNone IsChanged old k
+    → Meets tl_meaning (atoms_of new) atom k → Meets tl_meaning (atoms_of old) atom k
+
+-- writes stand in their order still, as long as the epoch rises
+abbrev pub KeepsOrder : Board → Board → Type 0
+KeepsOrder old new = new.graph.values.epoch < top → AreTurned old → AreTurned new
+
+-- what was written leads where it led, if these atoms are no records
+abbrev pub KeepsLeading : (TlKey → Type 0) → Board → Board → Type 0
+KeepsLeading IsChanged old new = AreNoRecords IsChanged → (since : ℕ) (m n : Pairs) → since ≤ old.graph.values.epoch → AreTurned old
+    → new.graph.values.epoch < top → Leads since m n old → Leads since m n new
+
+-- a write is among those of the newest transaction
+abbrev pub IsNewest : List (Level TlKey TlValue) → Write TlKey TlValue → Type 0
+IsNewest [] w = ⊥
+IsNewest (level ∷ around) w = Contains level.last.writes w
+
+-- what joined the writes of the newest transaction is of these atoms
+abbrev pub AddsOnly : (TlKey → Type 0) → Board → Board → Type 0
+AddsOnly IsChanged old new = (w : Write TlKey TlValue) → IsNewest new.journal.levels w → IsNewest old.journal.levels w ⊎ IsChanged w.key
+
+-- only these atoms changed: others, fresh keys that meet none of them, watches, where transactions began, and what is committed
+-- while one is open, are as they were; the epoch doesn't fall; and writes stand in their order and lead where they led
 pub record ChangesOnly (IsChanged : TlKey → Type 0) (old new : Board) : Type 0 where
-  pub others : (k : TlKey) → (IsChanged k → ⊥) → atoms_of new k ≡ atoms_of old k
+  pub others : KeepsOthers IsChanged old new
   pub begun : begun_of new ≡ begun_of old
   pub watches : new.graph.watches ≡ old.graph.watches
   pub depth : length new.journal.levels ≡ length old.journal.levels
   pub ring : old.journal.levels ≢ [] → new.journal.ring ≡ old.journal.ring
   pub epoch : old.graph.values.epoch ≤ new.graph.values.epoch
-  pub apart : (k : TlKey) → IsFreshIn old k → MeetsNone IsChanged old k → IsFreshIn new k
-  pub met : (k atom : TlKey) → MeetsNone IsChanged old k → Meets tl_meaning (atoms_of new) atom k → Meets tl_meaning (atoms_of old) atom k
-  pub order : new.graph.values.epoch < top → AreTurned old → AreTurned new
-  pub told : AreNoRecords IsChanged → (since : ℕ) (m n : Pairs) → since ≤ old.graph.values.epoch → AreTurned old → new.graph.values.epoch < top → Leads since m n old → Leads since m n new
+  pub apart : KeepsFresh IsChanged old new
+  pub met : MeetsNoFurther IsChanged old new
+  pub order : KeepsOrder old new
+  pub told : KeepsLeading IsChanged old new
+  pub adds : AddsOnly IsChanged old new

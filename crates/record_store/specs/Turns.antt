@@ -1,5 +1,5 @@
 -- In which order writes stand, and what those since an epoch tell.
-use Rattle.std.specs.Prelude.{◌≡◌, ◌⊎◌, ℕ, ◌<◌, ◌≤◌, List, [], ◌∷◌, length}
+use Rattle.std.specs.Prelude.{◌≡◌, ◌⊎◌, ℕ, ◌<◌, ◌≤◌, List, [], ◌∷◌, length, Contains}
 use Rattle.std.specs.List.{fold}
 use Rattle.rooms_val.specs.Data.{Pairs}
 use Rattle.rooms_val.specs.Maps.{set_at}
@@ -50,6 +50,10 @@ written_all = fold written
 -- what a store tells of the writes since an epoch leads from some records to its own
 abbrev pub TellsFrom : Seen → ℕ → Pairs → Type 0
 TellsFrom store since m = written_all m (diffs_after since (ring store).writes) ≡ records store
+
+-- what joined the last committed writes is of these atoms
+abbrev pub JoinsOnly : (TlKey → Type 0) → Seen → Seen → Type 0
+JoinsOnly IsChanged old new = (w : Write TlKey TlValue) → Contains (ring new).writes w → Contains (ring old).writes w ⊎ IsChanged w.key
 
 -- of an epoch that was reached the store tells no more, or it told before, and what it tells leads on to its records
 abbrev pub TellsOn : Seen → Seen → Type 0

@@ -1,5 +1,5 @@
 //! The lists of a board, as records change.
-ghost use Rattle.std.specs.Prelude.{◌≡◌, ◌≤◌, ℕ, List, length, Some, IsTrue, IfOk, OnOk};
+ghost use Rattle.std.specs.Prelude.{◌≡◌, ◌≤◌, ◌↔◌, ℕ, List, length, Some, IsTrue, IfOk, OnOk};
 ghost use Rattle.std.specs.List.Sorted.{IsPartitionedBy};
 ghost use Rattle.rooms_val.specs.Data.{IsSoundRecord};
 ghost use Rattle.rooms_val.specs.Maps.{value_at, set_at, without_key, with_key};
@@ -12,10 +12,10 @@ ghost use Rattle.tl_rules.specs.declared.key.TlKey.TheVariants as key_of;
 ghost use Rattle.tl_rules.specs.declared.value.TlValue.TheVariants as told;
 ghost use Rattle.board_lists.specs.declared.listing.Listing.{Listing as Kind};
 ghost use Rattle.board_lists.specs.Laws.{IsPlaceAmong};
-ghost use Rattle.board_lists.specs.Listings.{is_before, owner_of, index_of};
+ghost use Rattle.board_lists.specs.Listings.{is_before};
 ghost use Rattle.record_store.specs.Kept.{IsBoard};
 ghost use Rattle.record_store.specs.Seen.{AreKeys};
-ghost use Rattle.record_store.specs.Lists.{atoms_of, records_of, place_at, AreLists, IsListOf, IsMoved, IsRelisted, IsWritten, IsTold, AreTold, ChangesOnly};
+ghost use Rattle.record_store.specs.Lists.{atoms_of, records_of, place_at, AreLists, IsListOf, StandAlike, IsMoved, IsRelisted, IsWritten, IsTold, AreTold, ChangesOnly};
 
 use crate::keys::Keys;
 use board_lists::{Listing, with_id, without_id};
@@ -63,7 +63,8 @@ fn place_among(
     ensures bound { result ≤ length ids.now }
     ensures place { IsPartitionedBy
         (is_before listing (records_of keys.now graph.now) (place_at index.now id.now)) ids.now
-        → IsPlaceAmong listing (records_of keys.now graph.now) (place_at index.now id.now) ids.now result }
+        → IsPlaceAmong listing (records_of keys.now graph.now) (place_at index.now id.now)
+        ids.now result }
 {
     ids.partition_point(|other| {
         listing.is_before(
@@ -88,7 +89,8 @@ fn unlist(
     requires there { value_at (records_of keys.now graph.old) id.now ≡ Some (data_of record_.now) }
     ensures lists { OnOk result
         (AreLists listing graph.new (without_key (records_of keys.now graph.old) id.now)) }
-    ensures left { ChangesOnly (IsListOf listing id.now (Some (data_of record_.now))) graph.old graph.new }
+    ensures left { ChangesOnly (IsListOf listing id.now (Some (data_of record_.now)))
+        graph.old graph.new }
 {
     let Some(owner) = listing.owner(id, record_) else {
         return Ok(());
@@ -109,10 +111,12 @@ fn enlist(
     id: &str,
     record_: &Val,
 ) -> Mem<()>
-    requires lists { AreLists listing graph.old (without_key (records_of keys.now graph.old) id.now) }
+    requires lists { AreLists listing graph.old
+        (without_key (records_of keys.now graph.old) id.now) }
     ensures lists { OnOk result (AreLists listing graph.new
         (with_key (records_of keys.now graph.old) id.now (data_of record_.now))) }
-    ensures left { ChangesOnly (IsListOf listing id.now (Some (data_of record_.now))) graph.old graph.new }
+    ensures left { ChangesOnly (IsListOf listing id.now (Some (data_of record_.now)))
+        graph.old graph.new }
 {
     let Some(owner) = listing.owner(id, record_) else {
         return Ok(());
@@ -137,10 +141,7 @@ fn set_atom(alloc: Global, graph: &mut Txn<TlRules>, key: TlKey, value: TlValue)
 
 // Whether a record stands in its list where another does under the same id.
 fn stands_alike(listing: Listing, id: &str, before: &Val, after: &Val) -> bool
-    ensures owner { IsTrue result
-        → owner_of listing (id.now, data_of before.now) ≡ owner_of listing (id.now, data_of after.now) }
-    ensures index { IsTrue result
-        → index_of listing (data_of before.now) ≡ index_of listing (data_of after.now) }
+    ensures { IsTrue result ↔ StandAlike listing id.now (data_of before.now) (data_of after.now) }
 {
     listing.owner(id, before) == listing.owner(id, after)
         && listing.index(before) == listing.index(after)
@@ -190,7 +191,8 @@ fn relist(
     ensures lists { OnOk result (AreLists listing graph.new
         (set_at (records_of keys.now graph.old) id.now (owned_data after.now))) }
     ensures left { ChangesOnly
-        (IsMoved listing id.now (owned_data before.now) (owned_data after.now)) graph.old graph.new }
+        (IsMoved listing id.now (owned_data before.now) (owned_data after.now))
+        graph.old graph.new }
 {
     match before {
         Some(old) => {
@@ -241,9 +243,11 @@ pub(crate) fn write_all(
 ) -> Mem<Option<Val>>
     requires known { value_at keys.now id.now ≡ Some (key_of.Rec id.now) }
     requires board { IsBoard keys.now (atoms_of graph.old) }
-    ensures old { IfOk result (λ r. owned_data r ≡ value_at (records_of keys.now graph.old) id.now) }
+    ensures old { IfOk result (λ r. owned_data r
+        ≡ value_at (records_of keys.now graph.old) id.now) }
     ensures ok { OnOk result
-        (records_of keys.now graph.new ≡ set_at (records_of keys.now graph.old) id.now (owned_data after)) }
+        (records_of keys.now graph.new
+        ≡ set_at (records_of keys.now graph.old) id.now (owned_data after)) }
     ensures board { OnOk result (IsBoard keys.now (atoms_of graph.new)) }
     ensures left { ChangesOnly (IsWritten id.now
         (value_at (records_of keys.now graph.old) id.now) (owned_data after)) graph.old graph.new }

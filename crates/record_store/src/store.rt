@@ -12,7 +12,7 @@ ghost use Rattle.signal_values.specs.Seen.{IsFreshIn, top};
 ghost use Rattle.record_store.specs.Kept.{IsLevelled};
 ghost use Rattle.record_store.specs.Lists.{begun_of, atoms_of, IsWritten};
 ghost use Rattle.record_store.specs.Seen.{records, begun, watches, epoch, ring};
-ghost use Rattle.record_store.specs.Turns.{TellsFrom, TellsOn};
+ghost use Rattle.record_store.specs.Turns.{JoinsOnly, TellsFrom, TellsOn};
 ghost use Rattle.record_store.specs.Calls.{AreDue, AreNews, ArePlainNews, AreTold, AreAsked, KeepsApart, KeepsBoard};
 
 use crate::keys::Keys;
@@ -103,6 +103,9 @@ impl RecordStore {
         ensures apart { OnOk result (KeepsApart
             (IsWritten id.now (value_at (records self.old) id.now) (maybe_data record_))
             self.old self.new) }
+        ensures joins { OnOk result (JoinsOnly
+            (IsWritten id.now (value_at (records self.old) id.now) (maybe_data record_))
+            self.old self.new) }
         ensures told { begun self.old ≡ [] → OnOk result (TellsOn self.old self.new) }
         ensures ticked { steps.new ≡ steps.old + 1 }
     {
@@ -157,7 +160,8 @@ impl RecordStore {
     /// `Full` exactly where 64 are watched, or `OutOfMemory`; then nothing changed.
     pub fn watch(&mut self, key: TlKey) -> Result<WatchId, WatchFault>
         ensures number { IfOk result (λ id. IsLeastFree (watches self.old) id.number) }
-        ensures ok { IfOk result (λ id. AddsWatch (watches self.old) (watches self.new) key id.number) }
+        ensures ok { IfOk result (λ id.
+            AddsWatch (watches self.old) (watches self.new) key id.number) }
         ensures board { KeepsBoard self.old self.new }
         ensures full { (result ≡ Err watch_fault.Full) ↔ IsFull (watches self.old) }
         ensures err { OnErr result (self.new ≡ self.old) }
@@ -301,13 +305,34 @@ impl DocStore for RecordStore {
         self.keys.ids_of_records(alloc, &self.graph)
     }
 
+    /// As `replace`, with what it promises.
     fn write<L: Ledger>(
         &mut self,
         alloc: Global,
         id: &str,
         record_: Option<Val>,
         steps: &mut Steps<L>,
-    ) -> Mem<Option<Val>> {
+    ) -> Mem<Option<Val>>
+        ensures old { IfOk result (λ r. maybe_data r ≡ value_at (records self.old) id.now) }
+        ensures ok { OnOk result
+            (records self.new ≡ set_at (records self.old) id.now (maybe_data record_)) }
+        ensures ticked { OnOk result (steps.new ≡ steps.old + 1) }
+        ensures untold { OnErr result (steps.new ≤ steps.old + 1) }
+        ensures begun { begun self.new ≡ begun self.old }
+        ensures rest { watches self.new ≡ watches self.old }
+        ensures err { OnErr result (records self.new ≡ records self.old) }
+        ensures ring { OnErr result (ring self.new ≡ ring self.old) }
+        ensures inner { begun self.old ≢ [] → ring self.new ≡ ring self.old }
+        ensures epoch { epoch self.old ≤ epoch self.new }
+        ensures apart { OnOk result (KeepsApart
+            (IsWritten id.now (value_at (records self.old) id.now) (maybe_data record_))
+            self.old self.new) }
+        ensures joins { OnOk result (JoinsOnly
+            (IsWritten id.now (value_at (records self.old) id.now) (maybe_data record_))
+            self.old self.new) }
+        ensures told { begun self.old ≡ [] → OnOk result (TellsOn self.old self.new) }
+        ensures counted { steps.new ≡ steps.old + 1 }
+    {
         self.replace(alloc, id, record_, steps)
     }
 

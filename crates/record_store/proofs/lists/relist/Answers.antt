@@ -1,8 +1,9 @@
-use Rattle.std.proofs.Common.{inl, inr, sym, ap, subst, ◌∙◌}
+use Rattle.std.proofs.Common.{None, Some, inl, inr, sym, ap, subst, ◌∙◌}
 use Rattle.rooms_val.specs.Maps.{set_at}
 use Rattle.rooms_val.proofs.MapsLemmas.{without_absent}
+use Rattle.rooms_val.specs.View.{data_of}
 use Rattle.field_ops.specs.View.{maybe_data}
-use Rattle.record_store.specs.Lists.{records_of, AreLists, IsListOf}
+use Rattle.record_store.specs.Lists.{records_of, AreLists, IsMoved}
 use Rattle.record_store.proofs.FrameLemmas.{wider}
 use Rattle.record_store.proofs.lists.relist.Goals as goal
 
@@ -18,8 +19,14 @@ returns-in-None-after-2-clause-lists c =
 
 pub returns-in-None-after-clause-left : goal.returns-in-None-after-clause-left
 returns-in-None-after-clause-left c =
-    wider _ _ c.args.graph.now c.unlist.new.graph (λ k h. inl (subst (λ o. IsListOf c.args.listing c.args.id.now (maybe_data o) k) (sym c.in-Some.is) h)) c.unlist.ensures.left
+    wider _ _ c.args.graph.now c.unlist.new.graph
+    (λ k h. subst (λ o. IsMoved c.args.listing c.args.id.now (maybe_data o) (maybe_data c.args.after.now) k) (sym c.in-Some.is)
+    (subst (λ o. IsMoved c.args.listing c.args.id.now (Some (data_of c.in-Some.old)) (maybe_data o) k) (sym c.in-None-after.is) (tt, inl h)))
+    c.unlist.ensures.left
 
 pub returns-in-Some-after-2-clause-left : goal.returns-in-Some-after-2-clause-left
 returns-in-Some-after-2-clause-left c =
-    wider _ _ c.args.graph.now c.enlist.new.graph (λ k h. inr (subst (λ o. IsListOf c.args.listing c.args.id.now (maybe_data o) k) (sym c.in-Some-after-2.is) h)) c.enlist.ensures.left
+    wider _ _ c.args.graph.now c.enlist.new.graph
+    (λ k h. subst (λ o. IsMoved c.args.listing c.args.id.now (maybe_data o) (maybe_data c.args.after.now) k) (sym c.in-None.is)
+    (subst (λ o. IsMoved c.args.listing c.args.id.now None (maybe_data o) k) (sym c.in-Some-after-2.is) (tt, inr h)))
+    c.enlist.ensures.left

@@ -8,8 +8,9 @@ use Rattle.record_store.specs.Lists.{Board, atoms_of, begun_of, IsWritten, Chang
 use Rattle.record_store.specs.Seen.{Seen, records, begun, epoch, records_under}
 use Rattle.record_store.proofs.FrameLemmas.{on_err, epoch_after}
 use Rattle.signal_values.specs.Seen.{top}
-use Rattle.record_store.specs.Turns.{TellsOn}
+use Rattle.record_store.specs.Turns.{JoinsOnly, TellsOn}
 use Rattle.record_store.proofs.CallLemmas.{none_open}
+use Rattle.record_store.proofs.NewestLemmas.{joins_these}
 use Rattle.record_store.proofs.TellLemmas.{atoms_same, commit_turned, abort_turned, tells_on}
 use Rattle.record_store.proofs.ReplaceLemmas.{written_order, tells_then, there_now, records_then, board_then, begun_then, kept_apart, store_then, put_back, closed}
 use Rattle.record_store.proofs.store.RecordStore.replace.Goals as goal
@@ -100,6 +101,15 @@ returns-in-Ok-clause-apart g c =
     subst (λ (s : Seen). KeepsApart (IsWritten c.args.id.now (value_at (records s) c.args.id.now) (maybe_data c.args.record_)) s new) c.self.view_is
     (kept_apart _ c.self.inside.graph c.open.new.graph c.write_all.new.graph c.commit.new.self c.open.ensures.graph c.commit.ensures.graph
     (subst (λ (m : Pairs). ChangesOnly (IsWritten c.args.id.now (value_at m c.args.id.now) (maybe_data c.args.record_)) c.open.new.graph c.write_all.new.graph) same c.write_all.ensures.left))
+
+pub returns-in-Ok-clause-joins : goal.returns-in-Ok-clause-joins
+returns-in-Ok-clause-joins g c =
+    let old : Seen = record { keys = c.self.inside.keys; txn = c.self.inside.graph } in
+    let new : Seen = record { keys = c.add.new.self; txn = c.commit.new.self } in
+    let same = records_then old c.self.invariant c.args.id.now c.add.new.self c.in_ok-add.ensures.ok (atoms_of c.open.new.graph) (atoms_same c.open.new.graph c.self.inside.graph c.open.ensures.graph) in
+    subst (λ (s : Seen). JoinsOnly (IsWritten c.args.id.now (value_at (records s) c.args.id.now) (maybe_data c.args.record_)) s new) c.self.view_is
+    (joins_these _ c.self.inside.graph c.open.new.graph c.write_all.new.graph c.commit.new.self c.in_ok-open.ensures.journal
+    (subst (λ (m : Pairs). ChangesOnly (IsWritten c.args.id.now (value_at m c.args.id.now) (maybe_data c.args.record_)) c.open.new.graph c.write_all.new.graph) same c.write_all.ensures.left) c.commit.ensures)
 
 pub returns-in-Err-clause-epoch : goal.returns-in-Err-clause-epoch
 returns-in-Err-clause-epoch g c =
