@@ -12,9 +12,9 @@ use Rattle.rooms_val.specs.Maps.{ties}
 use Rattle.field_ops.specs.Patched.{raw}
 use Rattle.field_ops.specs.RecordOps.{RecordOps}
 use Rattle.doc_model.specs.Documents.{fold_raw}
-use Rattle.reach_laws.specs.Laws.{IsIn, AreAll}
-use Rattle.reach_laws.specs.Reaching.{reaches}
-use Rattle.reach_laws.proofs.ReachingLemmas.{enough, climb, raised, raised_is, any_imp, or_left}
+use Rattle.side_effects.specs.ReachingLaws.{IsIn, AreAll}
+use Rattle.side_effects.specs.Reaching.{reaches}
+use Rattle.side_effects.proofs.ReachingLemmas.{enough, climb, raised, raised_is, any_imp, or_left}
 use Rattle.shape_tree.specs.Records.{is_shape}
 use Rattle.side_effects.specs.Records.{parent_of}
 use Rattle.side_effects.specs.Whole.{parent_at, parents, meets_within, meets_itself}

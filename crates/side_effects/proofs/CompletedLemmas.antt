@@ -11,12 +11,12 @@ use Rattle.field_ops.specs.RecordOps.{RecordOpTree, remove, RecordOps}
 use Rattle.schema_core.specs.Tree.{SchemaTree}
 use Rattle.schema_core.specs.Admits.{is_document}
 use Rattle.doc_model.specs.Documents.{fold_raw}
-use Rattle.reach_laws.specs.Laws.{IsIn, IsClosed}
+use Rattle.side_effects.specs.ReachingLaws.{IsIn, IsClosed}
 use Rattle.shape_tree.specs.Records.{is_shape, is_binding}
 use Rattle.side_effects.specs.Records.{parent_of, from_of, to_of, holders_of, has}
 use Rattle.side_effects.specs.Placed.{is_unplaced, placed, unplaced, placing, and_then, all_placed}
 use Rattle.side_effects.specs.Removed.{removes, holders, goes, with_removes}
-use Rattle.side_effects.specs.Completed.{wrong_scope, no_record, invalid, first_refusal, unless, not_whole, if_few, indexed, completed}
+use Rattle.side_effects.specs.Completed.{wrong_scope, no_record, invalid, first_refusal, unless, or_else, misnamed, unfit, not_whole, if_few, indexed, completed}
 use Rattle.side_effects.specs.declared.fault.EditFault.{EditFault}
 use Rattle.side_effects.specs.declared.fault.EditFault.TheVariants.{TooMany, WrongScope}
 use Rattle.side_effects.proofs.RemovesLemmas.{removed_is, all_removed, rising-all_removed}
@@ -47,6 +47,10 @@ and_then_ok (Err fault) next y is = absurd (not_err fault y is)
 unless_ok : {A : Type 0} (o : Option EditFault) (next : Result A EditFault) (y : A) → unless o next ≡ Ok y → (o ≡ None) × (next ≡ Ok y)
 unless_ok None next y is = (refl, is)
 unless_ok (Some fault) next y is = absurd (not_err fault y is)
+
+neither : (one other : Option EditFault) → or_else one other ≡ None → (one ≡ None) × (other ≡ None)
+neither None other is = (refl, is)
+neither (Some fault) other is = absurd (cc)
 
 cond_ok : {A : Type 0} (many : Bool) (next : Result A EditFault) (y : A) → cond many (Err TooMany) next ≡ Ok y → next ≡ Ok y
 cond_ok true next y is = absurd (not_err TooMany y is)
@@ -156,13 +160,13 @@ module _ (s : SchemaTree) (m : Pairs) (wanted diff : RecordOps) (is : completed 
       let few = cond_ok (nat_lt 8192 (length wanted)) (and_then (indexed s m wanted) (λ d. unless (not_whole m wanted (with_removes m d)) (if_few (with_removes m d)))) diff is in
       let found = and_then_ok (indexed s m wanted) (λ d. unless (not_whole m wanted (with_removes m d)) (if_few (with_removes m d))) diff few in
       let whole = unless_ok (not_whole m wanted (with_removes m found.0)) (if_few (with_removes m found.0)) diff found.2 in
-      let scope = unless_ok (first_refusal (wrong_scope s) wanted) _ found.0 found.1 in
-      let there = unless_ok (first_refusal (no_record m) wanted) _ found.0 scope.1 in
-      let valid = unless_ok (first_refusal (invalid s m) (placed m wanted)) (all_placed s m (placed m wanted) (unplaced m wanted)) found.0 there.1 in
+      let fits = unless_ok (unfit s m wanted) (all_placed s m (placed m wanted) (unplaced m wanted)) found.0 found.1 in
+      let named = neither (misnamed s m wanted) (first_refusal (invalid s m) (placed m wanted)) fits.0 in
+      let scope = neither (first_refusal (wrong_scope s) wanted) (first_refusal (no_record m) wanted) named.0 in
       record {
         filled = found.0;
         scoped = scope.0;
-        placed_all = valid.1;
+        placed_all = fits.1;
         removed_all = same_ok (with_removes m found.0) diff (cond_ok (nat_lt 8192 (length (with_removes m found.0))) (Ok (with_removes m found.0)) diff whole.1);
       }
 

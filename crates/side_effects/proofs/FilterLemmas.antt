@@ -7,7 +7,7 @@ use Rattle.std.specs.Ordering.{is_eq}
 use Rattle.std.specs.FinMap.Entries.{below_all}
 use Rattle.rooms_val.specs.Maps.{value_at, order, ties, keys_of, AreRising}
 use Rattle.rooms_val.proofs.MapsLemmas.{first, second, both, by_tie, order_itself, none_later}
-use Rattle.reach_laws.specs.Laws.{IsIn}
+use Rattle.side_effects.specs.ReachingLaws.{IsIn}
 
 module _ {V : Type 0} (test : List ℕ × V → Bool) where
   below-filter : (low : List ℕ) (es : List (List ℕ × V)) → T (below_all order low es) → T (below_all order low (filter test es))

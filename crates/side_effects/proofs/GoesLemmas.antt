@@ -9,9 +9,9 @@ use Rattle.rooms_val.specs.Maps.{value_at, keys_of, AreRising}
 use Rattle.rooms_val.proofs.MapsLemmas.{same_pairs}
 use Rattle.field_ops.specs.RecordOps.{remove, RecordOps}
 use Rattle.doc_model.specs.Documents.{fold_raw}
-use Rattle.reach_laws.specs.Laws.{IsIn, AreAll, IsClosed}
-use Rattle.reach_laws.specs.Reaching.{reaches}
-use Rattle.reach_laws.proofs.ReachingLemmas.{alone, closed_below, has_ends, within}
+use Rattle.side_effects.specs.ReachingLaws.{IsIn, AreAll, IsClosed}
+use Rattle.side_effects.specs.Reaching.{reaches}
+use Rattle.side_effects.proofs.ReachingLemmas.{alone, closed_below, has_ends, within}
 use Rattle.shape_tree.specs.Records.{text_or_empty, is_shape, is_binding}
 use Rattle.side_effects.specs.Records.{holders_of, has}
 use Rattle.side_effects.specs.Removed.{removes, holders, goes, with_removes}

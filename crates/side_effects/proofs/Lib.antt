@@ -1,4 +1,5 @@
 pub mod AfterLemmas
+pub mod ReachingLemmas
 pub mod LeastLemmas
 pub mod FilterLemmas
 pub mod RemovesLemmas

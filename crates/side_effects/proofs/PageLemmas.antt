@@ -9,7 +9,7 @@ use Rattle.field_ops.specs.Laws.{raw_after}
 use Rattle.field_ops.specs.RecordOps.{RecordOpTree, put, patch, remove, RecordOps}
 use Rattle.doc_model.specs.Documents.{fold_raw}
 use Rattle.doc_model.proofs.MergeLemmas.{at-fold_raw}
-use Rattle.reach_laws.proofs.ReachingLemmas.{any_in, in_any, or_cases, or_left, or_right}
+use Rattle.side_effects.proofs.ReachingLemmas.{any_in, in_any, or_cases, or_left, or_right}
 use Rattle.side_effects.specs.Records.{is_page, has}
 use Rattle.side_effects.specs.Removed.{is_remove}
 use Rattle.side_effects.specs.Whole.{has_page, is_page_in, last_page}

@@ -3,7 +3,7 @@ use Rattle.std.proofs.Common.{◌≡◌, ℕ, suc, Bool, true, false, ◌||◌, 
 use Rattle.rooms_val.specs.Maps.{value_at, with_key, ties}
 use Rattle.rooms_val.proofs.MapsLemmas.{ties_same, at-with_key, rising-with_key}
 use Rattle.field_ops.specs.RecordOps.{remove, RecordOps}
-use Rattle.reach_laws.specs.Laws.{IsIn}
+use Rattle.side_effects.specs.ReachingLaws.{IsIn}
 use Rattle.side_effects.specs.Removed.{removes}
 use Rattle.side_effects.specs.Links.{Links, Sweeps}
 use Rattle.side_effects.proofs.FilterLemmas.{ties_with}

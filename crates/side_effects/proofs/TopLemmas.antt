@@ -14,7 +14,7 @@ use Rattle.field_ops.specs.Laws.{raw_after}
 use Rattle.field_ops.specs.RecordOps.{RecordOps}
 use Rattle.doc_model.specs.Documents.{fold_raw}
 use Rattle.doc_model.proofs.MergeLemmas.{at-fold_raw, rising-fold_raw}
-use Rattle.reach_laws.specs.Laws.{IsIn}
+use Rattle.side_effects.specs.ReachingLaws.{IsIn}
 use Rattle.shape_tree.specs.Trees.{is_child}
 use Rattle.shape_tree.specs.Records.{is_shape}
 use Rattle.side_effects.specs.Records.{parent_of, index_of}

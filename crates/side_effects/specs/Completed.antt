@@ -13,6 +13,8 @@ use Rattle.side_effects.specs.Removed.{with_removes}
 use Rattle.side_effects.specs.Whole.{last_page, no_parent, under_itself, no_end}
 use Rattle.side_effects.specs.declared.fault.EditFault.{EditFault}
 use Rattle.side_effects.specs.declared.fault.EditFault.TheVariants.{TooMany, WrongScope, NoRecord, Invalid}
+use Rattle.side_effects.specs.declared.rules.Rule.{Rule}
+use Rattle.side_effects.specs.declared.rules.Rule.TheVariants as rule
 
 -- the operation names an id that isn't of document scope
 abbrev pub wrong_scope : SchemaTree → List ℕ → RecordOpTree → Option EditFault
@@ -43,20 +45,42 @@ abbrev pub or_else : Option EditFault → Option EditFault → Option EditFault
 or_else None next = next
 or_else (Some fault) next = Some fault
 
--- why a document isn't whole after a diff in what the wanted one names
+-- what a rule says of an operation, of a document and of what a diff leaves of it
+abbrev pub refuses : Rule → SchemaTree → Pairs → RecordOps → List ℕ → RecordOpTree → Option EditFault
+refuses rule.Scope s m diff = wrong_scope s
+refuses rule.There s m diff = no_record m
+refuses rule.Admitted s m diff = invalid s m
+refuses rule.Parent s m diff = no_parent (fold_raw m diff)
+refuses rule.Chain s m diff = under_itself (fold_raw m diff)
+refuses rule.Ends s m diff = no_end (fold_raw m diff)
+
+-- why shapes don't stand where they may: one has no parent, or else one stands under itself
+abbrev pub misplaced : Pairs → RecordOps → Option EditFault
+misplaced after wanted = or_else (first_refusal (no_parent after) wanted) (first_refusal (under_itself after) wanted)
+
+-- why shapes and bindings don't hang on what is there: shapes first, then bindings
+abbrev pub unhung : Pairs → RecordOps → Option EditFault
+unhung after wanted = or_else (misplaced after wanted) (first_refusal (no_end after) wanted)
+
+-- why a document isn't whole after a diff in what the wanted one names: it lost its last page, or something isn't hung
 abbrev pub not_whole : Pairs → RecordOps → RecordOps → Option EditFault
-not_whole m wanted diff =
-    let after = fold_raw m diff in
-    or_else (last_page m after) (or_else (first_refusal (no_parent after) wanted) (or_else (first_refusal (under_itself after) wanted) (first_refusal (no_end after) wanted)))
+not_whole m wanted diff = or_else (last_page m (fold_raw m diff)) (unhung (fold_raw m diff) wanted)
 
 -- the diff, or that it has too many operations
 abbrev pub if_few : RecordOps → Result RecordOps EditFault
 if_few diff = if nat_lt 8192 (length diff) then Err TooMany else Ok diff
 
+-- why an id is named wrongly: it isn't of document scope, or else there is no record to patch or remove
+abbrev pub misnamed : SchemaTree → Pairs → RecordOps → Option EditFault
+misnamed s m wanted = or_else (first_refusal (wrong_scope s) wanted) (first_refusal (no_record m) wanted)
+
+-- what refuses an edit before its new shapes get indices: one of these, or else a record that isn't admitted
+abbrev pub unfit : SchemaTree → Pairs → RecordOps → Option EditFault
+unfit s m wanted = or_else (misnamed s m wanted) (first_refusal (invalid s m) (placed m wanted))
+
 -- the wanted diff with the indices that new shapes get, or what refuses it or one of these
 abbrev pub indexed : SchemaTree → Pairs → RecordOps → Result RecordOps EditFault
-indexed s m wanted =
-    unless (first_refusal (wrong_scope s) wanted) (unless (first_refusal (no_record m) wanted) (unless (first_refusal (invalid s m) (placed m wanted)) (all_placed s m (placed m wanted) (unplaced m wanted))))
+indexed s m wanted = unless (unfit s m wanted) (all_placed s m (placed m wanted) (unplaced m wanted))
 
 -- the wanted diff with indices, and with removes of what goes, or the first rule that refuses it
 abbrev pub completed : SchemaTree → Pairs → RecordOps → Result RecordOps EditFault

@@ -5,7 +5,7 @@ use Rattle.rooms_val.specs.Data.{Pairs}
 use Rattle.rooms_val.specs.Maps.{AreRising, value_at, order}
 use Rattle.field_ops.specs.RecordOps.{RecordOpTree, RecordOps}
 use Rattle.doc_model.specs.Documents.{fold_raw}
-use Rattle.reach_laws.specs.Laws.{IsClosed}
+use Rattle.side_effects.specs.ReachingLaws.{IsClosed}
 use Rattle.side_effects.specs.Completed.{first_refusal}
 use Rattle.side_effects.specs.Removed.{removes, holders, goes}
 use Rattle.side_effects.specs.Whole.{meets_within, meets_itself}

@@ -1,4 +1,6 @@
 pub mod Records
+pub mod Reaching
+pub mod ReachingLaws
 pub mod Placed
 pub mod Tops
 pub mod Removed

@@ -5,7 +5,7 @@ use Rattle.std.specs.Option.{option_map_or}
 use Rattle.rooms_val.specs.Data.{Pairs}
 use Rattle.rooms_val.specs.Maps.{AreRising, value_at, keys_of}
 use Rattle.field_ops.specs.RecordOps.{remove, RecordOps}
-use Rattle.reach_laws.specs.Laws.{IsIn}
+use Rattle.side_effects.specs.ReachingLaws.{IsIn}
 use Rattle.shape_tree.specs.Records.{text_or_empty, is_shape, is_binding}
 use Rattle.side_effects.specs.Removed.{removes}
 

@@ -6,7 +6,7 @@ use Rattle.rooms_val.specs.Data.{Pairs}
 use Rattle.rooms_val.specs.Maps.{value_at, with_key, keys_of}
 use Rattle.field_ops.specs.RecordOps.{RecordOpTree, put, patch, remove, RecordOps}
 use Rattle.doc_model.specs.Documents.{fold_raw}
-use Rattle.reach_laws.specs.Reaching.{reaches}
+use Rattle.side_effects.specs.Reaching.{reaches}
 use Rattle.side_effects.specs.Records.{holders_of, has}
 
 abbrev pub is_remove : RecordOpTree → Bool

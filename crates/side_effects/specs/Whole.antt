@@ -5,7 +5,7 @@ use Rattle.std.specs.Option.{option_map_or}
 use Rattle.rooms_val.specs.Data.{Data, Pairs}
 use Rattle.rooms_val.specs.Maps.{value_at}
 use Rattle.field_ops.specs.RecordOps.{RecordOpTree}
-use Rattle.reach_laws.specs.Reaching.{reaches}
+use Rattle.side_effects.specs.Reaching.{reaches}
 use Rattle.shape_tree.specs.Boxes.{shape_at}
 use Rattle.shape_tree.specs.Records.{text_or_empty, is_shape, is_binding}
 use Rattle.side_effects.specs.Records.{is_page, parent_of, from_of, to_of, has}

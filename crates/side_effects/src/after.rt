@@ -81,7 +81,8 @@ pub(crate) fn text_after<D: DocStore>(
     id: &str,
     key: &str,
 ) -> Mem<Option<Text>>
-    ensures { IfOk result (λ t. t ≡ option_map (λ d. text_or_empty d key.now) (value_at (fold_raw (D.records store.now) diff.now) id.now)) }
+    ensures { IfOk result (λ t. t ≡ option_map (λ d. text_or_empty d key.now)
+        (value_at (fold_raw (D.records store.now) diff.now) id.now)) }
 {
     tell_rising(diff);
     match diff.get(id) {
@@ -111,7 +112,8 @@ pub(crate) fn parent_after<D: DocStore>(
 
 // The text under a key of a record, if there is one.
 fn text_of(alloc: Global, record_: Option<&Val>, key: &str) -> Mem<Option<Text>>
-    ensures { IfOk result (λ t. t ≡ option_map (λ d. text_or_empty d key.now) (maybe_data record_.entry)) }
+    ensures { IfOk result (λ t. t
+        ≡ option_map (λ d. text_or_empty d key.now) (maybe_data record_.entry)) }
 {
     match record_ {
         Some(val) => Ok(Some(Text::of(alloc, text_or_empty(val, key))?)),

@@ -1,9 +1,9 @@
 //! Chains of parents, from a shape up.
-ghost use Rattle.std.specs.Prelude.{◌≡◌, ◌<◌, ◌≤◌, ℕ, IfOk, MatchOption, false, true, length, bytes_eq};
+ghost use Rattle.std.specs.Prelude.{◌≡◌, ◌<◌, ℕ, IfOk, MatchOption, false, length, bytes_eq};
 ghost use Rattle.rooms_val.specs.Answers.{Gives};
 ghost use Rattle.field_ops.specs.RecordOps.{remove};
 ghost use Rattle.doc_model.specs.Documents.{fold_raw};
-ghost use Rattle.side_effects.specs.Completed.{first_refusal, refusal};
+ghost use Rattle.side_effects.specs.Completed.{refusal};
 ghost use Rattle.side_effects.specs.Whole.{meets_itself, meets_within, under_itself};
 ghost use Rattle.side_effects.specs.declared.fault.EditFault.TheVariants as edit_fault;
 
@@ -17,24 +17,9 @@ use std::alloc::Global;
 // How far up a chain is followed before the records are counted.
 const FEW_STEPS: usize = 64;
 
-/// Refuses shapes that stand on their own chain of parents. It costs the chains; the store's ids are counted only where a
-/// chain has more than 64 parents.
-pub(crate) fn check_chains<D: DocStore>(
-    alloc: Global,
-    store: &D,
-    diff: &Diff,
-    wanted: &Diff,
-) -> Result<(), EditFault>
-    ensures { Gives edit_fault.OutOfMemory (λ _. tt) result
-        (refusal (first_refusal (under_itself (fold_raw (D.records store.now) diff.now)) wanted.now)) }
-{
-    for (id, _) in wanted.as_slice() {
-        check_chain(alloc, store, diff, id)?;
-    }
-    Ok(())
-}
-
-fn check_chain<D: DocStore>(
+/// Refuses a shape that stands on its own chain of parents. It costs the chain; the store's ids are counted only where the chain
+/// has more than 64 parents.
+pub(crate) fn check_chain<D: DocStore>(
     alloc: Global,
     store: &D,
     diff: &Diff,
@@ -78,7 +63,8 @@ fn walk_up<D: DocStore>(
     steps: usize,
 ) -> Mem<Option<bool>>
     ensures { IfOk result (λ met. MatchOption met
-        ((n : ℕ) → n < steps → meets_within n (fold_raw (D.records store.now) diff.now) id.now ≡ false)
+        ((n : ℕ) → n < steps
+        → meets_within n (fold_raw (D.records store.now) diff.now) id.now ≡ false)
         (λ b. b ≡ meets_itself (fold_raw (D.records store.now) diff.now) id.now)) }
 {
     let mut next = parent_after(alloc, store, diff, id)?;

@@ -4,12 +4,11 @@ ghost use Rattle.schema_core.specs.SchemaOf.{schema_tree};
 ghost use Rattle.side_effects.specs.Completed.{completed, indexed, not_whole, refusal};
 ghost use Rattle.side_effects.specs.declared.fault.EditFault.TheVariants as edit_fault;
 
-use crate::chains::check_chains;
 use crate::fault::EditFault;
 use crate::placing::{placed, with_placed};
 use crate::removing::with_removes;
-use crate::rules::{check_records, check_results, check_scopes};
-use crate::whole::{check_ends, check_pages, check_parents};
+use crate::rules::{Rule, check_each};
+use crate::whole::check_pages;
 use doc_store::DocStore;
 use field_ops::Diff;
 use schema_core::Schema;
@@ -48,14 +47,15 @@ pub fn complete<D: DocStore>(
     store: &D,
     wanted: &Diff,
 ) -> Result<Diff, EditFault>
-    ensures { Gives edit_fault.OutOfMemory (λ d. d) result (completed (schema_tree schema.now) (D.records store.now) wanted.now) }
+    ensures { Gives edit_fault.OutOfMemory (λ d. d) result
+        (completed (schema_tree schema.now) (D.records store.now) wanted.now) }
 {
     if wanted.len() > MOST_OPERATIONS {
         return Err(EditFault::TooMany);
     }
     let diff = indexed(alloc, schema, store, wanted)?;
     let diff = with_removes(alloc, store, diff)?;
-    check_whole(alloc, store, &diff, wanted)?;
+    check_whole(alloc, schema, store, &diff, wanted)?;
     if diff.len() > MOST_OPERATIONS {
         return Err(EditFault::TooMany);
     }
@@ -69,26 +69,29 @@ fn indexed<D: DocStore>(
     store: &D,
     wanted: &Diff,
 ) -> Result<Diff, EditFault>
-    ensures { Gives edit_fault.OutOfMemory (λ d. d) result (indexed (schema_tree schema.now) (D.records store.now) wanted.now) }
+    ensures { Gives edit_fault.OutOfMemory (λ d. d) result
+        (indexed (schema_tree schema.now) (D.records store.now) wanted.now) }
 {
-    check_scopes(alloc, schema, wanted)?;
-    check_records(alloc, store, wanted)?;
+    check_each(alloc, Rule::Scope, schema, store, wanted, wanted)?;
+    check_each(alloc, Rule::There, schema, store, wanted, wanted)?;
     let diff = placed(alloc, store, wanted)?;
-    check_results(alloc, schema, store, &diff)?;
+    check_each(alloc, Rule::Admitted, schema, store, &diff, &diff)?;
     with_placed(alloc, schema, store, wanted, diff)
 }
 
 // Refuses a diff after which the document isn't whole in what the wanted one names.
 fn check_whole<D: DocStore>(
     alloc: Global,
+    schema: &Schema,
     store: &D,
     diff: &Diff,
     wanted: &Diff,
 ) -> Result<(), EditFault>
-    ensures { Gives edit_fault.OutOfMemory (λ _. tt) result (refusal (not_whole (D.records store.now) wanted.now diff.now)) }
+    ensures { Gives edit_fault.OutOfMemory (λ _. tt) result
+        (refusal (not_whole (D.records store.now) wanted.now diff.now)) }
 {
     check_pages(alloc, store, diff)?;
-    check_parents(alloc, store, diff, wanted)?;
-    check_chains(alloc, store, diff, wanted)?;
-    check_ends(alloc, store, diff, wanted)
+    check_each(alloc, Rule::Parent, schema, store, diff, wanted)?;
+    check_each(alloc, Rule::Chain, schema, store, diff, wanted)?;
+    check_each(alloc, Rule::Ends, schema, store, diff, wanted)
 }

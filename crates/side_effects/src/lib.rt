@@ -10,6 +10,7 @@ pub mod completion;
 pub mod fault;
 pub mod laws;
 mod placing;
+pub mod reaching;
 mod records;
 mod removing;
 mod rules;

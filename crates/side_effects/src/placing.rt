@@ -55,7 +55,8 @@ fn keep_placed<D: DocStore>(
     id: &Text,
     op: &RecordOp,
 ) -> Mem<()>
-    ensures { OnOk result (diff.new ≡ (if is_unplaced (D.records store.now) id.now (change_of op.now) then diff.old
+    ensures { OnOk result (diff.new
+        ≡ (if is_unplaced (D.records store.now) id.now (change_of op.now) then diff.old
         else with_key diff.old id.now (change_of op.now))) }
 {
     if is_unplaced(store, id.as_str(), op) {
@@ -76,7 +77,8 @@ pub(crate) fn with_placed<D: DocStore>(
 ) -> Result<Diff, EditFault>
     requires { diff ≡ placed (D.records store.now) wanted.now }
     ensures { Gives edit_fault.OutOfMemory (λ d. d) result
-        (all_placed (schema_tree schema.now) (D.records store.now) diff (unplaced (D.records store.now) wanted.now)) }
+        (all_placed (schema_tree schema.now) (D.records store.now) diff
+        (unplaced (D.records store.now) wanted.now)) }
 {
     tell_store(store);
     if diff.len() == wanted.len() {
@@ -106,11 +108,14 @@ fn place<D: DocStore>(
         → IsPlacing (D.records store.now) tops.new diff.new left) }
     ensures next { OnOk result ((left : RecordOps)
         → IsPlacing (D.records store.now) tops.old diff.old ((id.now, change_of op.now) ∷ left)
-        → all_placed (schema_tree schema.now) (D.records store.now) diff.old (unplaced (D.records store.now) ((id.now, change_of op.now) ∷ left))
-        ≡ all_placed (schema_tree schema.now) (D.records store.now) diff.new (unplaced (D.records store.now) left)) }
+        → all_placed (schema_tree schema.now) (D.records store.now) diff.old
+        (unplaced (D.records store.now) ((id.now, change_of op.now) ∷ left))
+        ≡ all_placed (schema_tree schema.now) (D.records store.now) diff.new
+        (unplaced (D.records store.now) left)) }
     ensures refused { IfErr result (λ e. ¬ (e ≡ edit_fault.OutOfMemory) → (left : RecordOps)
         → IsPlacing (D.records store.now) tops.old diff.old ((id.now, change_of op.now) ∷ left)
-        → all_placed (schema_tree schema.now) (D.records store.now) diff.old (unplaced (D.records store.now) ((id.now, change_of op.now) ∷ left)) ≡ Err e) }
+        → all_placed (schema_tree schema.now) (D.records store.now) diff.old
+        (unplaced (D.records store.now) ((id.now, change_of op.now) ∷ left)) ≡ Err e) }
 {
     if !is_unplaced(store, id.as_str(), op) {
         return Ok(());
@@ -136,7 +141,8 @@ fn placed_behind(
     val: &Val,
 ) -> Result<Val, EditFault>
     ensures { Gives edit_fault.OutOfMemory (λ v. put (data_of v)) result
-        (put_behind (schema_tree schema.now) id.now (data_of val.now) (top_in tops.now (parent_of (data_of val.now)))) }
+        (put_behind (schema_tree schema.now) id.now (data_of val.now)
+        (top_in tops.now (parent_of (data_of val.now)))) }
 {
     let key = key_behind(alloc, tops.text_at(text_or_empty(val, "parentId")))?;
     let shape = with_index(alloc, val, key)?;
@@ -148,7 +154,8 @@ fn placed_behind(
 
 // The key behind an index, if there is one.
 fn key_behind(alloc: Global, index: Option<&str>) -> Result<Text, EditFault>
-    ensures { Gives edit_fault.OutOfMemory (λ key. key) result (or_no_key (between (option_map (λ t. t.now) index.entry) None)) }
+    ensures { Gives edit_fault.OutOfMemory (λ key. key) result
+        (or_no_key (between (option_map (λ t. t.now) index.entry) None)) }
 {
     match between(alloc, index, None) {
         Ok(key) => Ok(Text::of(alloc, key.as_str())?),
@@ -196,7 +203,8 @@ fn raise_by<D: DocStore>(
     id: &Text,
 ) -> Mem<()>
     ensures { OnOk result ((parent : List ℕ) → top_in tops.new parent
-        ≡ raised_by (fold_raw (D.records store.now) diff.now) id.now parent (top_in tops.old parent)) }
+        ≡ raised_by (fold_raw (D.records store.now) diff.now) id.now parent
+        (top_in tops.old parent)) }
 {
     if !is_shape(id.as_str()) {
         return Ok(());
@@ -214,7 +222,8 @@ fn raise_by<D: DocStore>(
 // Raises it by the index of a shape.
 fn raise_to(alloc: Global, tops: &mut Fields, shape: &Val) -> Mem<()>
     ensures { OnOk result ((other : List ℕ) → top_in tops.new other
-        ≡ raised (parent_of (data_of shape.now)) (index_of (data_of shape.now)) other (top_in tops.old other)) }
+        ≡ raised (parent_of (data_of shape.now)) (index_of (data_of shape.now)) other
+        (top_in tops.old other)) }
 {
     let parent = Text::of(alloc, text_or_empty(shape, "parentId"))?;
     let index = Text::of(alloc, text_or_empty(shape, "index"))?;
@@ -223,7 +232,8 @@ fn raise_to(alloc: Global, tops: &mut Fields, shape: &Val) -> Mem<()>
 
 // Raises the greatest index of a parent's children to an index.
 fn raise(tops: &mut Fields, parent: Text, index: Text) -> Mem<()>
-    ensures { OnOk result ((other : List ℕ) → top_in tops.new other ≡ raised parent index other (top_in tops.old other)) }
+    ensures { OnOk result ((other : List ℕ) → top_in tops.new other
+        ≡ raised parent index other (top_in tops.old other)) }
 {
     if !is_above(index.as_str(), tops.text_at(parent.as_str())) {
         return Ok(());
@@ -234,7 +244,8 @@ fn raise(tops: &mut Fields, parent: Text, index: Text) -> Mem<()>
 
 // Whether the index is greater than another, if there is one.
 fn is_above(index: &str, held: Option<&str>) -> bool
-    ensures { result ≡ option_map_or (λ k. is_lt (order k index.now)) (option_map (λ t. t.now) held.entry) true }
+    ensures { result ≡ option_map_or (λ k. is_lt (order k index.now))
+        (option_map (λ t. t.now) held.entry) true }
 {
     match held {
         Some(held) => held < index,

@@ -50,7 +50,8 @@ fn has_remove(diff: &Diff) -> bool
 // Removes what hangs on a removed record, and takes out its links. Whether there were any.
 fn sweep(alloc: Global, links: &mut Links, all: &mut Diff) -> Mem<bool>
     ensures swept { OnOk result ((links_of : Links) (old : RecordOps)
-        → Sweeps links_of old links.old.items all.old → Sweeps links_of old links.new.items all.new) }
+        → Sweeps links_of old links.old.items all.old
+        → Sweeps links_of old links.new.items all.new) }
     ensures free { IfOk result (λ found. found ≡ false → AreFree links.new.items all.new) }
     ensures fewer { IfOk result (λ found. found ≡ true → vec_len links.new < vec_len links.old) }
 {
@@ -79,7 +80,8 @@ fn put_removal(all: &mut Diff, id: Text, _holder: Text) -> Mem<()>
 
 // The links of the store's records, as these are after the diff.
 fn links_of<D: DocStore>(alloc: Global, store: &D, diff: &Diff) -> Mem<Links>
-    ensures { IfOk result (λ found. found.items ≡ links (D.records store.now) (fold_raw (D.records store.now) diff.now)) }
+    ensures { IfOk result (λ found. found.items
+        ≡ links (D.records store.now) (fold_raw (D.records store.now) diff.now)) }
 {
     let mut found = Vec::new(alloc);
     let ids = store.ids(alloc)?;
@@ -103,7 +105,8 @@ fn push_link<D: DocStore>(
     id: &Text,
     key: &str,
 ) -> Mem<()>
-    ensures { OnOk result (found.new.items ≡ found.old.items ++ link_by (fold_raw (D.records store.now) diff.now) id.now key.now) }
+    ensures { OnOk result (found.new.items ≡ found.old.items
+        ++ link_by (fold_raw (D.records store.now) diff.now) id.now key.now) }
 {
     if let Some(holder) = text_after(alloc, store, diff, id.as_str(), key)? {
         found.push((id.copy(alloc)?, holder))?;

@@ -4,10 +4,11 @@ ghost use Rattle.std.specs.List.{list_any};
 ghost use Rattle.rooms_val.specs.Answers.{Gives};
 ghost use Rattle.field_ops.specs.RecordOps.{remove};
 ghost use Rattle.doc_model.specs.Documents.{fold_raw};
-ghost use Rattle.side_effects.specs.Completed.{first_refusal, refusal};
+ghost use Rattle.side_effects.specs.Completed.{refusal};
 ghost use Rattle.side_effects.specs.Records.{is_page};
 ghost use Rattle.side_effects.specs.Removed.{is_remove};
-ghost use Rattle.side_effects.specs.Whole.{is_page_in, last_page, has_parent, has_shape, no_parent, no_end, leads_to_shape};
+ghost use Rattle.side_effects.specs.Whole.{is_page_in, last_page, has_parent, has_shape};
+ghost use Rattle.side_effects.specs.Whole.{no_parent, no_end, leads_to_shape};
 ghost use Rattle.side_effects.specs.declared.fault.EditFault.TheVariants as edit_fault;
 
 use crate::after::{has_after, is_remove, parent_after, tell_rising, text_after};
@@ -86,23 +87,8 @@ fn is_page_after<D: DocStore>(store: &D, diff: &Diff, id: &str) -> bool
     is_page(id) && has_after(store, diff, id)
 }
 
-/// Refuses shapes without a parent.
-pub(crate) fn check_parents<D: DocStore>(
-    alloc: Global,
-    store: &D,
-    diff: &Diff,
-    wanted: &Diff,
-) -> Result<(), EditFault>
-    ensures { Gives edit_fault.OutOfMemory (λ _. tt) result
-        (refusal (first_refusal (no_parent (fold_raw (D.records store.now) diff.now)) wanted.now)) }
-{
-    for (id, _) in wanted.as_slice() {
-        check_parent(alloc, store, diff, id)?;
-    }
-    Ok(())
-}
-
-fn check_parent<D: DocStore>(
+/// Refuses a shape whose parent isn't there.
+pub(crate) fn check_parent<D: DocStore>(
     alloc: Global,
     store: &D,
     diff: &Diff,
@@ -137,23 +123,13 @@ fn has_shape<D: DocStore>(store: &D, diff: &Diff, id: &str) -> bool
     is_shape(id) && has_after(store, diff, id)
 }
 
-/// Refuses bindings without an end.
-pub(crate) fn check_ends<D: DocStore>(
+/// Refuses a binding of which an end isn't there.
+pub(crate) fn check_end<D: DocStore>(
     alloc: Global,
     store: &D,
     diff: &Diff,
-    wanted: &Diff,
+    id: &Text,
 ) -> Result<(), EditFault>
-    ensures { Gives edit_fault.OutOfMemory (λ _. tt) result
-        (refusal (first_refusal (no_end (fold_raw (D.records store.now) diff.now)) wanted.now)) }
-{
-    for (id, _) in wanted.as_slice() {
-        check_end(alloc, store, diff, id)?;
-    }
-    Ok(())
-}
-
-fn check_end<D: DocStore>(alloc: Global, store: &D, diff: &Diff, id: &Text) -> Result<(), EditFault>
     ensures { Gives edit_fault.OutOfMemory (λ _. tt) result
         (refusal (no_end (fold_raw (D.records store.now) diff.now) id.now remove)) }
 {
@@ -176,7 +152,8 @@ fn leads_to_shape<D: DocStore>(
     id: &str,
     key: &str,
 ) -> Mem<bool>
-    ensures { IfOk result (λ b. b ≡ leads_to_shape (fold_raw (D.records store.now) diff.now) id.now key.now) }
+    ensures { IfOk result (λ b. b
+        ≡ leads_to_shape (fold_raw (D.records store.now) diff.now) id.now key.now) }
 {
     match text_after(alloc, store, diff, id, key)? {
         Some(end) => Ok(has_shape(store, diff, end.as_str())),

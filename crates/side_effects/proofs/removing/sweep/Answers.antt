@@ -1,6 +1,6 @@
 use Rattle.std.proofs.Common.{◌≡◌, ◌+◌, ◌≤◌, ◌++◌, [], ◌∷◌, true, false, ℕ, List, cond, length, inl, inr, sym, ap, subst, ◌∙◌, append_assoc, arith}
 use Rattle.std.specs.Vec.Iter.{into_iter_items}
-use Rattle.reach_laws.specs.Laws.{IsIn}
+use Rattle.side_effects.specs.ReachingLaws.{IsIn}
 use Rattle.side_effects.specs.Removed.{removes}
 use Rattle.side_effects.specs.Links.{Links, Sweeps}
 use Rattle.side_effects.proofs.SweepLemmas.{sweeps_hit, length_more, in_pushed}

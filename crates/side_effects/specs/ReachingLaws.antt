@@ -1,6 +1,6 @@
 -- The laws of reaching, each the contract of a function of `laws.rt`.
 use Rattle.std.specs.Prelude.{◌≡◌, List, [], ◌∷◌, Bool, true, ◌⊎◌, length}
-use Rattle.reach_laws.specs.Reaching.{reaches}
+use Rattle.side_effects.specs.Reaching.{reaches}
 
 -- the list has the item
 abbrev pub IsIn : {X : Type 0} → X → List X → Type 0

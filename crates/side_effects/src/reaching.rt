@@ -1,6 +1,6 @@
 //! Laws of reaching. Each function does nothing: its contract is the law.
 ghost use Rattle.std.specs.Prelude.{ℕ, List, Bool};
-ghost use Rattle.reach_laws.specs.Laws.{AreAll, AreLeast};
+ghost use Rattle.side_effects.specs.ReachingLaws.{AreAll, AreLeast};
 
 /// Where only items of a list have something above them, what reaches an end by as many steps as the list is long is the least
 /// set that has the ends and each item with something of it one step above.

@@ -2,8 +2,8 @@
 use Rattle.std.proofs.Common.{◌≡◌, ℕ, zero, suc, ◌+◌, ◌-◌, ◌<◌, ◌≤◌, Bool, true, false, ◌||◌, cond, List, [], ◌∷◌, length, ◌⊎◌, inl, inr, refl, sym, ap, subst, ◌∙◌, arith}
 use Rattle.std.specs.List.{list_any}
 use Rattle.std.proofs.lemmas.Bool.{cases_lt}
-use Rattle.reach_laws.specs.Reaching.{reaches}
-use Rattle.reach_laws.specs.Laws.{IsIn, AreAll, IsClosed, AreLeast}
+use Rattle.side_effects.specs.Reaching.{reaches}
+use Rattle.side_effects.specs.ReachingLaws.{IsIn, AreAll, IsClosed, AreLeast}
 
 pub or_left : (a b : Bool) → a ≡ true → (a || b) ≡ true
 or_left a b is = ap (λ x. x || b) is
