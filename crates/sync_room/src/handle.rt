@@ -2,6 +2,7 @@
 ghost use Rattle.std.specs.Prelude.{◌≡◌, ◌<ℤ◌, ◌^◌, ℕ, pos, Bool, false, Some, None, IfOk, OnOk, OnErr};
 ghost use Rattle.rooms_val.specs.Maps.{AreRising};
 ghost use Rattle.room_model.specs.Accepting.{pushed_diff};
+ghost use Rattle.room_model.specs.Reachable.{IsRising};
 ghost use Rattle.room_model.specs.Rooms as model;
 ghost use Rattle.room_model.specs.Rooms.{Ask, after_message, after_connect, after_push, after_ping, protocol_fault};
 ghost use Rattle.room_schemas.specs.Decided.{decided};
@@ -48,7 +49,11 @@ impl Room {
         // Whoever was in the room still is, and the schema stays.
         ensures others { (other : SessionId) → IsIn other self.old.sessions → IsIn other self.new.sessions }
         ensures schema { tree_of self.new ≡ tree_of self.old }
+
+        // The ids of the message's diff rise, as those of each diff do.
+        ensures rises { IsRising message.now }
     {
+        message_rises(message);
         if let Phase::Ended { reason, .. } = &self.sessions.at(session).phase {
             return Ok(Handled::Ended(*reason));
         }
@@ -200,6 +205,15 @@ fn protocol_fault(version: i64) -> Option<EndReason>
         return Some(EndReason::ServerTooOld);
     }
     None
+}
+
+// That the ids of a message's diff rise.
+fn message_rises(message: &ClientMessage)
+    ensures { IsRising message.now }
+{
+    if let ClientMessage::Push { diff, .. } = message {
+        ids_rise(diff);
+    }
 }
 
 // That the ids of a push's diff rise, which its number of ids tells.
