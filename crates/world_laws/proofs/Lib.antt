@@ -9,6 +9,7 @@ pub mod PingLemmas
 pub mod DownLemmas
 pub mod DueLemmas
 pub mod PresenceLemmas
+pub mod RemovalLemmas
 pub mod RequestLemmas
 pub mod BarredLemmas
 pub mod OweLemmas

@@ -89,7 +89,7 @@ closed_set k room n s t at goes h =
     ap over_at (ap (slice_get (slice_set room.sessions n t)) same ∙ set_at_place room.sessions n s t at) ∙ goes over)
     (λ apart. ap over_at (set_elsewhere room.sessions n k t apart) ∙ h)
 
-closed_added : (xs : List Session) (y : Session) (k : ℕ) → over_at (slice_get xs k) ≡ true → over_at (slice_get (xs ++ y ∷ []) k) ≡ true
+pub closed_added : (xs : List Session) (y : Session) (k : ℕ) → over_at (slice_get xs k) ≡ true → over_at (slice_get (xs ++ y ∷ []) k) ≡ true
 closed_added [] y k h = absurd (cc)
 closed_added (x ∷ xs) y zero h = h
 closed_added (x ∷ xs) y (suc k) h = closed_added xs y k h
@@ -98,7 +98,7 @@ pub last_over : (p : Phase) → IsLast p → is_over p ≡ true
 last_over _ (untold reason) = refl
 last_over _ is_gone = refl
 
-message_closed : (schemas : Schemas) (k : ℕ) (room : Room) (n : ℕ) (said : ClientMessage) (replied : Replied) → after_message schemas room n said ≡ Some replied
+pub message_closed : (schemas : Schemas) (k : ℕ) (room : Room) (n : ℕ) (said : ClientMessage) (replied : Replied) → after_message schemas room n said ≡ Some replied
     → is_closed room k ≡ true → is_closed replied.room k ≡ true
 message_closed schemas k room n said replied is h =
     message_turns (λ r. is_closed r k ≡ true) n (λ r j s phase at who here over g. closed_set k r j s _ at (λ o. last_over phase over) g) (λ r j is g. g) schemas room n refl said
@@ -106,7 +106,7 @@ message_closed schemas k room n said replied is h =
     (λ s count at says g. closed_set k room n s _ at (λ o. o) g)
     (λ s sent plan push at says is taken g. g) replied is h
 
-leave_closed : (k : ℕ) (room after : Room) (n : ℕ) → after_leave room n ≡ Some after → is_closed room k ≡ true → is_closed after k ≡ true
+pub leave_closed : (k : ℕ) (room after : Room) (n : ℕ) → after_leave room n ≡ Some after → is_closed room k ≡ true → is_closed after k ≡ true
 leave_closed k room after n is h =
     leave_turns (λ r. is_closed r k ≡ true) n (λ r j s phase at who here over g. closed_set k r j s _ at (λ o. last_over phase over) g) (λ r j is g. g) room after n refl is
     (λ s at over g. closed_set k room n s _ at (λ o. refl) g) h
@@ -117,11 +117,18 @@ given_over room n s _ _ (answers request reached plan is) o = absurd (differ (sy
 given_over room n s _ _ (pongs some) o = o
 given_over room n s _ _ (tells sent plan is less) o = absurd (differ (sym o ∙ ap is_over is))
 
-drain_closed : (schemas : Schemas) (k : ℕ) (room : Room) (n : ℕ) (given : Given) → next_for schemas room n ≡ Some given
+pub drain_closed : (schemas : Schemas) (k : ℕ) (room : Room) (n : ℕ) (given : Given) → next_for schemas room n ≡ Some given
     → is_closed room k ≡ true → is_closed (after_drain room n given) k ≡ true
 drain_closed schemas k room n given is h =
     let on = drain_gives schemas room n given is in
     closed_set k room n on.0 given.after on.1.at (given_over room n on.0 given.notice given.after on.2) h
+
+-- who is open isn't closed
+pub not_open : (k : ℕ) (r : Room) → was_open r k ≡ true → is_closed r k ≡ true → ⊥
+not_open k r is over = elim (slice_get r.sessions k) as (λ o. option_map_or (λ (s : Session). not (is_over s.phase)) o false ≡ true → over_at o ≡ true → ⊥) [
+  | None ↦ λ a b. differ (sym b)
+  | Some s ↦ λ a b. differ (sym a ∙ ap not b)
+] is over
 
 -- entries without author
 
@@ -352,12 +359,6 @@ module _ (schemas : Schemas) (lawful : AreLawful schemas) where
       subst (λ (x : Session). IsLive x.phase) it on.2
 
   -- nobody changes the presence of another session that stays
-
-  not_open : (k : ℕ) (r : Room) → was_open r k ≡ true → is_closed r k ≡ true → ⊥
-  not_open k r is over = elim (slice_get r.sessions k) as (λ o. option_map_or (λ (s : Session). not (is_over s.phase)) o false ≡ true → over_at o ≡ true → ⊥) [
-    | None ↦ λ a b. differ (sym b)
-    | Some s ↦ λ a b. differ (sym a ∙ ap not b)
-  ] is over
 
   entered_open : (k : ℕ) (r : Room) → was_open r k ≡ true → k < length r.sessions
   entered_open k r is = elim (slice_get r.sessions k) as (λ o. slice_get r.sessions k ≡ o → option_map_or (λ (s : Session). not (is_over s.phase)) o false ≡ true → k < length r.sessions) [

@@ -1,15 +1,16 @@
 //! Laws of who changes what in the room of a world that can be reached.
-ghost use Rattle.std.specs.Prelude.{◌≡◌, ℕ, true, Some};
+ghost use Rattle.std.specs.Prelude.{◌≡◌, ℕ, Bool, true, Some, Ok};
 ghost use Rattle.room_model.specs.Schemas.{Schemas, WorldSchemas, AreLawful, AreLawfulTogether};
 ghost use Rattle.room_model.specs.Rooms.{Room, Replied, after_message, after_leave};
 ghost use Rattle.room_model.specs.Naming.{AllNamed};
 ghost use Rattle.room_model.specs.Closing.{was_open};
 ghost use Rattle.room_model.specs.Reachable.{Reachable, IsRising};
-ghost use Rattle.room_model.specs.Worlds.{World};
+ghost use Rattle.room_model.specs.Worlds.{World, Stepped, after_event};
+ghost use Rattle.room_model.specs.declared.event.Event.{Event};
 ghost use Rattle.sync_msgs.specs.declared.client_message.ClientMessage.{ClientMessage};
 ghost use Rattle.world_laws.specs.Reachable.{ReachableWorld};
 ghost use Rattle.world_laws.specs.Sessions.{ArePresencesLive};
-ghost use Rattle.world_laws.specs.Presences.{AllRemovals, HasSamePresence};
+ghost use Rattle.world_laws.specs.Presences.{AllRemovals, GoesOnByClosing, HasSamePresence};
 
 /// The author of an entry has entered, and the entry names ids of the document and its author's
 /// presence alone; that of a read-only session names no id of the document.
@@ -24,6 +25,16 @@ pub fn entries_without_author_remove<F: Drop>()
     ensures { (schemas : WorldSchemas F) (world : World)
         → AreLawfulTogether schemas → ReachableWorld schemas world
         → AllRemovals world.room world.room.history }
+{}
+
+/// An event makes the room's history go on by entries of which each without author removes the
+/// presence of a session that wasn't ended and hadn't left before the event, and is ended or has left
+/// after it.
+pub fn removals_close_sessions<F: Drop>()
+    ensures { (schemas : WorldSchemas F) (trace : Bool) (world : World) (event : Event)
+        (made : Stepped)
+        → ReachableWorld schemas world → after_event schemas trace world event ≡ Ok made
+        → GoesOnByClosing world.room made.world.room }
 {}
 
 /// The presence of a session is in the room only while that session is live.
