@@ -3,3 +3,4 @@ pub mod TypeLemmas
 pub mod VersionLemmas
 pub mod PlanLemmas
 pub mod ClientLemmas
+pub mod RoomLemmas

@@ -59,10 +59,10 @@ fault_seen (s ∷ seqs) v = elim (bytes_eq s.id v.0) as (λ b.
       | false ↦ fault_seen seqs v
     ]
 
-abbrev at_of : List SequenceTree → Place → Option MigrationTree
+abbrev pub at_of : List SequenceTree → Place → Option MigrationTree
 at_of trees p = option_and_then (λ t. slice_get t.migrations p.migration) (slice_get trees p.sequence)
 
-at_seen : (seqs : List Sequence) (p : Place) → option_map migration_tree (migration_at seqs p) ≡ at_of (map sequence_tree seqs) p
+pub at_seen : (seqs : List Sequence) (p : Place) → option_map migration_tree (migration_at seqs p) ≡ at_of (map sequence_tree seqs) p
 at_seen seqs p =
     elim (slice_get seqs p.sequence) as (λ o.
     option_map migration_tree (option_and_then (λ (s : Sequence). slice_get s.migrations.items p.migration) o)
@@ -93,10 +93,10 @@ follows_seen seqs = λ i later earlier.
     || (depends_seen (migration_at seqs later) (migration_at seqs earlier) ∙ λ j. depends_of (at_seen seqs later j) (at_seen seqs earlier j)) i
 
 -- the plan of the sequences that trees stand for
-abbrev answer_of : List SequenceTree → Versions → Result (List Place) PlanFault
+abbrev pub answer_of : List SequenceTree → Versions → Result (List Place) PlanFault
 answer_of trees held = option_map_or Err (first_some (fault_of trees) held) (Ok (in_order (follows_of trees) (missing_of held 0 trees)))
 
-answer_seen : (seqs : List Sequence) (held : Versions) → plan_answer seqs held ≡ answer_of (map sequence_tree seqs) held
+pub answer_seen : (seqs : List Sequence) (held : Versions) → plan_answer seqs held ≡ answer_of (map sequence_tree seqs) held
 answer_seen seqs held = λ i.
     option_map_or Err (first_some (λ v. fault_seen seqs v i) held) (Ok (in_order (follows_seen seqs i) (missing_seen held 0 seqs i)))
 
@@ -154,10 +154,10 @@ same_types room m n seen is =
     )
 
 -- the newest migration of each of some sequences, after some versions
-abbrev newest_of : Versions → List SequenceTree → Versions
+abbrev pub newest_of : Versions → List SequenceTree → Versions
 newest_of held trees = fold (λ vs t. cond (nat_eq (length t.migrations) 0) vs (with_key vs t.id (length t.migrations))) held trees
 
-newest_seen : (held : Versions) (seqs : List Sequence)
+pub newest_seen : (held : Versions) (seqs : List Sequence)
     → fold (λ vs (s : Sequence). cond (nat_eq (length s.migrations.items) 0) vs (with_key vs s.id (length s.migrations.items))) held seqs ≡ newest_of held (map sequence_tree seqs)
 newest_seen held [] = refl
 newest_seen held (s ∷ seqs) =
