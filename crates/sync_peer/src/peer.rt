@@ -61,7 +61,7 @@ pub struct Peer {
 impl Peer {
     ghost use Rattle.sync_peer.specs.Standing.{Stands, Edits};
     ghost use Rattle.sync_peer.specs.Lending.{LendsStore};
-    ghost use Rattle.sync_peer.specs.Viewing.{store_of, watched, IsClosed};
+    ghost use Rattle.sync_peer.specs.Viewing.{store_of, watched, IsClosed, IsSoundStore};
 
     /// A peer of a version that was never connected and has no record.
     ///
@@ -341,6 +341,13 @@ impl Peer {
         Ok(Val::Map(fields))
     }
 
+    /// What the peer shows is sound, which a look-up tells.
+    pub fn tell_sound(&self)
+        ensures { IsSoundStore (store_of self.now) }
+    {
+        let _ = self.client.store().get("");
+    }
+
     /// The presence of others, as a map by id. It costs a copy of it.
     pub fn others(&self, alloc: Global) -> Mem<Val>
         ensures { IfOk result (λ val. (schemas : WorldSchemas EditFault) (held : Held)
@@ -420,7 +427,8 @@ impl Peer {
 // Adds a copy of the record of an id, if there is one.
 fn copy_record(alloc: Global, store: &RecordStore, id: Text, fields: &mut Fields) -> Mem<()>
     ensures sound { AreRising (records_of store.now) }
-    ensures copied { OnOk result (fields.new ≡ added fields.old id (value_at (records_of store.now) id)) }
+    ensures copied { OnOk result
+        (fields.new ≡ added fields.old id (value_at (records_of store.now) id)) }
 {
     if let Some(record) = store.get(id.as_str()) {
         let record = record.copy(alloc)?;
@@ -437,7 +445,8 @@ fn make<L: Ledger>(
     steps: &mut Steps<L>,
 ) -> Mem<Diff>
     ensures ok { OnOk result ((held : Held) → client_of.Stands records_of held client.old
-        → client_of.Stands records_of (record held { client = with_diff diff held.client }) client.new) }
+        → client_of.Stands records_of
+        (record held { client = with_diff diff held.client }) client.new) }
     ensures back { IfOk result (λ back. back ≡ inverse_diff
         (admits_of client.old.replica) (records_of client.old.replica.store) diff) }
     ensures err { OnErr result ((held : Held) → client_of.Stands records_of held client.old
