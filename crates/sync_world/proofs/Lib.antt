@@ -19,3 +19,6 @@ pub mod BackLemmas
 pub mod CaughtUpLemmas
 pub mod EntryLemmas
 pub mod ViewingLemmas
+pub mod SoundLemmas
+pub mod RefusalLemmas
+pub mod VersionLemmas

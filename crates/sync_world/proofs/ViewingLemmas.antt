@@ -26,6 +26,10 @@ set_store [] n k = refl
 set_store (x ∷ kept) zero k = refl
 set_store (x ∷ kept) (suc n) k = ap (λ (ss : List Seen). store_of x.peer ∷ ss) (set_store kept n k)
 
+pub long_stores : (kept : List WorldClient) → length (stores_kept kept) ≡ length kept
+long_stores [] = refl
+long_stores (k ∷ kept) = ap suc (long_stores kept)
+
 pub store_there : (kept : List WorldClient) (n : ℕ) (k : WorldClient) → slice_get kept n ≡ Some k → slice_get (stores_kept kept) n ≡ Some (store_of k.peer)
 store_there [] n k at = absurd (cc)
 store_there (x ∷ kept) zero k at = let same : x ≡ k = cc in ap (λ (y : WorldClient). Some (store_of y.peer)) same
@@ -106,6 +110,7 @@ still_stands schemas world code n one peer less value also stands =
     record {
       going = stands.going;
       keeps = record { reachable = stands.keeps.reachable; fits = subst (λ w. Fits schemas w new) same set; given = stands.keeps.given };
+      sound = stands.sound;
     }
 
 -- what holds anyway holds of each answer

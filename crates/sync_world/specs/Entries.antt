@@ -3,11 +3,12 @@ use Rattle.std.specs.Prelude.{◌≡◌, ℕ, slice_get, true, not, ◌||◌, So
 use Rattle.std.specs.List.{list_all}
 use Rattle.room_model.specs.Schemas.{WorldSchemas, is_own}
 use Rattle.room_model.specs.Closing.{is_closed}
-use Rattle.room_model.specs.Rooms.{Session, removal}
+use Rattle.room_model.specs.Rooms.{Session, Room, removal}
 use Rattle.room_model.specs.Worlds as model
 use Rattle.room_model.specs.declared.history.Author.{Author}
 use Rattle.room_model.specs.declared.history.Entry.{Entry}
 use Rattle.side_effects.specs.declared.fault.EditFault.{EditFault}
+use Rattle.world_laws.specs.Presences.{GoesOnByClosing}
 use Rattle.sync_world.specs.Standing.{Stands}
 use Rattle.sync_world.specs.declared.world.World.{World}
 
@@ -32,3 +33,10 @@ OthersRemovePresences code =
     (schemas : WorldSchemas EditFault) (world : model.World) (at : ℕ) (entry : Entry)
     → Stands schemas world code → slice_get world.room.history at ≡ Some entry → entry.author ≡ None
     → (session : ℕ) × (entry ≡ removal session) × (is_closed world.room session ≡ true)
+
+-- the code stands for a world whose history is that of a room with entries on top, of which each without author removes the presence of a
+-- session that was closed meanwhile
+pub record ClosesSince (schemas : WorldSchemas EditFault) (before : Room) (code : World) : Type 0 where
+  pub world : model.World
+  pub stands : Stands schemas world code
+  pub closes : GoesOnByClosing before world.room

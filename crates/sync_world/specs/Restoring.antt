@@ -1,5 +1,5 @@
 -- When an event brings back what a client showed at a mark.
-use Rattle.std.specs.Prelude.{◌≡◌, ℕ, List, ◌∷◌, ◌++◌, map, slice_get, Some}
+use Rattle.std.specs.Prelude.{◌≡◌, ℕ, Bool, List, ◌∷◌, ◌++◌, map, slice_get, Some, Ok}
 use Rattle.rooms_val.specs.Data.{Pairs}
 use Rattle.field_ops.specs.RecordOps.{RecordOps}
 use Rattle.doc_model.specs.Marks.{Item, mark, inverse, undo_diff, bail_diff}
@@ -7,12 +7,23 @@ use Rattle.doc_model.specs.Restoring.{AreBackAdmitted}
 use Rattle.room_model.specs.Schemas.{WorldSchemas}
 use Rattle.room_model.specs.Replicas.{Client, schema_of}
 use Rattle.room_model.specs.Worlds as model
-use Rattle.room_model.specs.Worlds.{shown_in}
+use Rattle.room_model.specs.Worlds.{Stepped, shown_in, after_event}
 use Rattle.room_model.specs.declared.event.Event.{Event}
 use Rattle.room_model.specs.declared.event.Event.TheVariants as event
 use Rattle.side_effects.specs.declared.fault.EditFault.{EditFault}
+use Rattle.world_laws.specs.Restoring.{Spares}
 use Rattle.sync_world.specs.Standing.{Stands}
 use Rattle.sync_world.specs.declared.world.World.{World}
+
+-- the worlds for which the code stood, one after the other, since a client that shows a document made a mark, as long as each event spares it
+pub data IsSinceMark (schemas : WorldSchemas EditFault) (number : ℕ) (name : List ℕ) (before : Pairs) : model.World → Type 0 where
+  marked : (trace : Bool) (world : model.World) (client : Client) (made : Stepped) (code after : World)
+      → Stands schemas world code → slice_get world.clients number ≡ Some client → shown_in schemas world client ≡ before
+      → after_event schemas trace world (event.Mark number name) ≡ Ok made → Stands schemas made.world after
+      → IsSinceMark schemas number name before made.world
+  went_on : (trace : Bool) (world : model.World) (e : Event) (made : Stepped) (after : World)
+      → IsSinceMark schemas number name before world → Spares world number name e → after_event schemas trace world e ≡ Ok made
+      → Stands schemas made.world after → IsSinceMark schemas number name before made.world
 
 -- a client bails to a mark, by a diff whose patches are to bring back admitted records
 pub record Bails (schemas : WorldSchemas EditFault) (world : model.World) (number : ℕ) (name : List ℕ) (before : Pairs) : Type 0 where

@@ -7,6 +7,7 @@ use Rattle.room_model.specs.Replicas.{Client, session_of}
 use Rattle.room_model.specs.Worlds as model
 use Rattle.world_laws.specs.Reachable.{ReachableWorld}
 use Rattle.world_laws.specs.Queues.{AreQueues}
+use Rattle.world_laws.specs.Restoring.{ShowsSound}
 use Rattle.sync_room.specs.Standing as room_of
 use Rattle.side_effects.specs.declared.fault.EditFault.{EditFault}
 use Rattle.peer_schemas.specs.Clients.{AreOfTables, schemas_of}
@@ -44,6 +45,8 @@ pub record Keeps (schemas : WorldSchemas EditFault) (world : model.World) (live 
 pub record Stands (schemas : WorldSchemas EditFault) (world : model.World) (code : World) : Type 0 where
   pub going : code.spent ≡ false
   pub keeps : Keeps schemas world code.live
+  -- what each client shows is sound, as each map is that code keeps
+  pub sound : (number : ℕ) → ShowsSound schemas world number
 
 -- schemas are those of the tables, and the room's is at a version
 abbrev pub IsAtVersion : ℕ → WorldSchemas EditFault → Type 0

@@ -2,7 +2,7 @@
 use Rattle.std.specs.Prelude.{◌≡◌, ◌≢◌, ◌⊎◌, ℕ, List, [], ◌∷◌, ◌++◌, length, map, Option, Some, None, slice_get}
 use Rattle.record_store.specs.Seen.{Seen, watches, begun}
 use Rattle.live_views.specs.Watches.{Watches, Stand}
-use Rattle.sync_peer.specs.Viewing.{store_of, WatchAlike}
+use Rattle.sync_peer.specs.Viewing.{store_of, WatchAlike, IsSoundStore}
 use Rattle.room_model.specs.declared.event.Event.{Event}
 use Rattle.room_model.specs.declared.event.Event.TheVariants as event
 use Rattle.sync_world.specs.declared.live.Live.{Live}
@@ -33,10 +33,11 @@ ChangesOne = ChangesAt WatchAlike
 abbrev pub ViewsOne : ℕ → List Seen → List Seen → Type 0
 ViewsOne = ChangesAt (λ s t. begun t ≡ begun s)
 
--- nothing is watched in a store, and no transaction is open
+-- nothing is watched in a store, whose records are sound, and no transaction is open
 pub record IsUnwatched (store : Seen) : Type 0 where
   pub unwatched : watches store ≡ []
   pub closed : begun store ≡ []
+  pub sound : IsSoundStore store
 
 -- the stores are as they were, but for that of a client that may have joined
 abbrev pub MayJoin : List Seen → List Seen → Type 0
@@ -60,6 +61,11 @@ ChangesIf (Some client) old new = ChangesOne client old new
 abbrev pub KeepsStores : Event → List Seen → List Seen → Type 0
 KeepsStores (event.Client version) old new = MayJoin old new
 KeepsStores e old new = ChangesIf (changed_by e) old new
+
+-- the store of this client is sound, if one is named and has a store
+abbrev pub IsSoundAt : Option ℕ → List Seen → Type 0
+IsSoundAt None stores = Unit {0}
+IsSoundAt (Some number) stores = (store : Seen) → slice_get stores number ≡ Some store → IsSoundStore store
 
 -- the store of a client has these watches
 abbrev pub HasWatches : ℕ → World → Watches → Type 0

@@ -123,7 +123,10 @@ fn new_peer(alloc: Global, version: u32) -> Mem<Peer>
     ensures unwatched { IfOk result (λ peer. IsUnwatched (store_of peer)) }
 {
     match Peer::new(alloc, version) {
-        Ok(peer) => Ok(peer),
+        Ok(peer) => {
+            peer.tell_sound();
+            Ok(peer)
+        }
         Err(TableFault::NoSuchVersion) => unreachable!(),
         Err(TableFault::OutOfMemory) => Err(OutOfMemory),
     }

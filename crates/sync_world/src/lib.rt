@@ -8,7 +8,9 @@
 //! `sync_room`, `sync_peer` and `world_queues`.
 #![tactic(auto)]
 
+mod changes;
 mod clients;
+pub mod laws;
 mod live;
 mod marks;
 mod sessions;
@@ -16,4 +18,5 @@ mod shows;
 mod views;
 pub mod world;
 
+pub use changes::changed_by;
 pub use world::World;

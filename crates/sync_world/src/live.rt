@@ -11,7 +11,7 @@ ghost use Rattle.world_queues.specs.Queues.{to_client};
 ghost use Rattle.sync_world.specs.Playing.{IsPlayed};
 ghost use Rattle.sync_world.specs.Standing.{Fits, Keeps};
 ghost use Rattle.sync_world.specs.Answers.{Answers};
-ghost use Rattle.sync_world.specs.Viewing.{stores_in, KeepsStores};
+ghost use Rattle.sync_world.specs.Viewing.{stores_in, KeepsStores, IsSoundAt};
 ghost use Rattle.sync_peer.specs.Viewing.{store_of};
 
 use room_model::fault::StepFault;
@@ -80,6 +80,18 @@ impl Live {
             Event::Lose { session } => Ok(self.lose(alloc, session)),
             Event::Show { client } => self.show(alloc, client),
             Event::End => self.end(alloc),
+        }
+    }
+
+    // What a client shows is sound, which a look-up tells.
+    pub(crate) fn tell_sound(&self, client: Option<u64>)
+        ensures { IsSoundAt client (stores_in self.now) }
+    {
+        let Some(number) = client else {
+            return;
+        };
+        if let Some(at) = self.place(number) {
+            self.clients[at].peer.tell_sound();
         }
     }
 

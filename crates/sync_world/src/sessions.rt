@@ -166,8 +166,10 @@ impl Live {
         }
     }
 
-    // A client takes a message of the room, and pushes what it then can if that connects it. No
-    // message that is in flight to a client is refused by it, so that memory ran out where it is.
+    // A client takes a message of the room, and pushes what it then can if that connects it. A message
+    // that is in flight to it is at none of the five faults `NotOpen`, `WrongRequest`, `NoPending`,
+    // `WrongPending` and `ClockBack` (`laws::clients_refuse_no_message`), so that a fault means that memory
+    // ran out.
     fn take<L: Ledger>(
         &mut self,
         alloc: Global,

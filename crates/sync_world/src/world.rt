@@ -8,16 +8,18 @@ ghost use Rattle.room_model.specs.Worlds.{new_world, after_event};
 ghost use Rattle.side_effects.specs.declared.fault.EditFault.{EditFault};
 ghost use Rattle.tl_tables.specs.Tables.{IsVersion};
 ghost use Rattle.sync_peer.specs.Standing as peer_of;
-ghost use Rattle.world_laws.specs.Restoring.{IsSinceMark};
 ghost use Rattle.sync_world.specs.Playing.{IsPlayed};
 ghost use Rattle.sync_world.specs.Holding.{held_of};
 ghost use Rattle.sync_world.specs.Standing.{Stands, IsAtVersion};
 ghost use Rattle.sync_world.specs.Answers.{StepsTo, is_spent};
-ghost use Rattle.sync_world.specs.Restoring.{GoesBack, Shows};
+ghost use Rattle.sync_world.specs.Restoring.{IsSinceMark, GoesBack, Shows};
 ghost use Rattle.sync_world.specs.Viewing.{stores_of, KeepsStores};
+ghost use Rattle.sync_peer.specs.Viewing.{store_of};
 ghost use Rattle.sync_world.specs.CaughtUp.{CaughtUpShowTheRoom};
-ghost use Rattle.sync_world.specs.Entries.{ReadonlyEditNothing, AuthorsNameTheirOwn, OthersRemovePresences};
+ghost use Rattle.sync_world.specs.Entries.{ReadonlyEditNothing, AuthorsNameTheirOwn};
+ghost use Rattle.sync_world.specs.Entries.{OthersRemovePresences, ClosesSince};
 
+use crate::changes::changed_by;
 use crate::live::{Answer, Live};
 use room_model::fault::StepFault;
 use room_model::limits::LAST_CLOCK;
@@ -76,7 +78,7 @@ impl World {
     /// document, seen at its version. In the room's history an entry of a read-only session names no
     /// id of the document; an entry with an author names ids of the document and the author's own
     /// presence alone; and one without author removes the presence of a session that was ended or
-    /// has left.
+    /// has left, by the event that appended the entry.
     ///
     /// # Errors
     ///
@@ -105,6 +107,8 @@ impl World {
         ensures readonly { ReadonlyEditNothing self.new }
         ensures authored { AuthorsNameTheirOwn self.new }
         ensures unauthored { OthersRemovePresences self.new }
+        ensures closing { OnOk result ((schemas : WorldSchemas EditFault) (world : model.World)
+            → Stands schemas world self.old → ClosesSince schemas world.room self.new) }
         ensures spent { self.old.spent ≡ true
             → (result ≡ Err StepFault.OutOfMemory) × (self.new.spent ≡ true) }
         ensures spends { result ≡ Err StepFault.OutOfMemory → self.new.spent ≡ true }
@@ -112,8 +116,10 @@ impl World {
         if self.spent {
             return Err(StepFault::OutOfMemory);
         }
+        let changed = changed_by(&event);
         match self.live.happen(alloc, event, trace, steps) {
             Ok(answer) => {
+                self.live.tell_sound(changed);
                 self.spent = is_spent(&answer);
                 answer
             }
@@ -125,12 +131,14 @@ impl World {
     }
 
     /// The client of a number, which was made. It stands for the client of the definitions with the
-    /// base that this has of the room.
+    /// base that this has of the room, and its store has what the client watches, with what was last
+    /// told of that.
     pub fn peer(&self, client: u64) -> &Peer
         requires { client < vec_len self.now.live.clients }
-        ensures { (schemas : WorldSchemas EditFault) (world : model.World) (one : Client)
+        ensures stands { (schemas : WorldSchemas EditFault) (world : model.World) (one : Client)
             → Stands schemas world self.now → slice_get world.clients client ≡ Some one
             → peer_of.Stands schemas (held_of schemas world.room.history one) result.now }
+        ensures store { slice_get (stores_of self.now) client ≡ Some (store_of result.now) }
     {
         &self.live.clients[client as usize].peer
     }

@@ -20,5 +20,9 @@ returns-in_ok-new-in-Ok-clause-stands c =
     let stands = c.in_ok-new-in-Ok.ensures.stands LAST_CLOCK refl in (
       schemas_of (room_of.tree_of room),
       is_at_version c.args.version c.requires live at,
-      record { going = refl; keeps = begins c.args.version c.requires live at stands c.new-in-Ok-2.ensures.items c.new-in-Ok.ensures.sent c.new-in-Ok.ensures.given },
+      record {
+        going = refl;
+        keeps = begins c.args.version c.requires live at stands c.new-in-Ok-2.ensures.items c.new-in-Ok.ensures.sent c.new-in-Ok.ensures.given;
+        sound = λ number client there. absurd (cc);
+      },
     )
