@@ -1,110 +1,19 @@
--- Plans go by what sequences stand for, and the empty one leads nowhere but to the same tables.
-use Rattle.std.proofs.Common.{◌≡◌, ℕ, suc, ◌-◌, Bool, true, false, ◌&&◌, ◌||◌, cond, List, [], ◌∷◌, ◌++◌, length, map, fold, Option, None, Some, option_map, Ok, Err, refl, sym, ap, ◌∙◌}
-use Rattle.std.specs.Prelude.{Result, slice_get, nat_eq, nat_lt, find}
-use Rattle.std.specs.List.{list_any}
-use Rattle.std.specs.Option.{option_map_or, option_and_then}
-use Rattle.std.specs.Str.{bytes_eq}
-use Rattle.std.proofs.lemmas.List.{length-map}
-use Rattle.std.proofs.lemmas.Option.{slice_get-map}
-use Rattle.rooms_val.specs.Maps.{value_at, with_key}
-use Rattle.migrate_seq.specs.Order.{first_some, in_order}
-use Rattle.migrate_seq.specs.Plans.{migration_at, migrations_at, depends_on, follows, places_from, missing_from, version_fault, plan_answer, are_both_ways, newest_versions}
-use Rattle.migrate_seq.specs.Versions.{Versions}
+-- The plan of a version of the tables is empty for nobody but who holds that version.
+use Rattle.std.proofs.Common.{◌≡◌, ℕ, true, false, cond, List, [], ◌∷◌, map, Ok, Err, refl, sym, ap, ◌∙◌}
+use Rattle.std.specs.Prelude.{Result}
+use Rattle.migrate_seq.specs.Plans.{migrations_at, plan_answer, are_both_ways, newest_versions}
 use Rattle.migrate_seq.specs.declared.fault.PlanFault.{PlanFault}
-use Rattle.migrate_seq.specs.declared.fault.PlanFault.TheVariants.{TooNew, UnknownSequence}
-use Rattle.migrate_seq.specs.declared.migration.Migration.{Migration}
-use Rattle.migrate_seq.specs.declared.migration.Sequence.{Sequence}
 use Rattle.migrate_seq.specs.declared.place.Place.{Place}
 use Rattle.schema_core.specs.Builds.{by_name}
 use Rattle.schema_core.specs.Tree.{SchemaTree}
 use Rattle.room_schemas.specs.Decided.{both_ways_only, plan_for}
 use Rattle.sync_msgs.specs.declared.end_reason.EndReason.TheVariants.{ClientTooOld, ServerTooOld}
-use Rattle.tl_tables.specs.Migrations.{base_1, shape_1, shape_2, binding_1, sequence_at, base, binding, shape, sequences}
-use Rattle.tl_tables.specs.Trees.{MigrationTree, SequenceTree, migration_tree, sequence_tree}
+use Rattle.tl_tables.specs.Migrations.{sequences}
+use Rattle.tl_tables.specs.Trees.{sequence_tree}
 use Rattle.tl_tables.specs.Types.{type_rows}
+use Rattle.tl_tables.proofs.PlanLemmas.{answer_of, answer_seen, is_empty, leads, newest_of, newest_seen, newest_are}
 use Rattle.peer_schemas.specs.Clients.{table_version, newest_at}
-use Rattle.peer_schemas.proofs.VersionLemmas.{by_table_version}
-
--- which migrations of a sequence are missed, by the number of all
-abbrev first_of : Versions → List ℕ → Bool → ℕ → ℕ
-first_of held id retroactive n = option_map_or (λ k. k) (value_at held id) (cond retroactive 0 n)
-
-abbrev missing_of : Versions → ℕ → List SequenceTree → List Place
-missing_of held i [] = []
-missing_of held i (t ∷ trees) =
-    let n = length t.migrations in
-    let first = first_of held t.id t.retroactive n in
-    places_from i first (n - first) ++ missing_of held (suc i) trees
-
-missing_seen : (held : Versions) (i : ℕ) (seqs : List Sequence) → missing_from held i seqs ≡ missing_of held i (map sequence_tree seqs)
-missing_seen held i [] = refl
-missing_seen held i (s ∷ seqs) =
-    let places : ℕ → List Place = λ n. let first = first_of held s.id s.retroactive n in places_from i first (n - first) in
-    ap (λ n. places n ++ missing_from held (suc i) seqs) (sym (length-map s.migrations.items migration_tree))
-    ∙ ap (λ rest. places (length (map migration_tree s.migrations.items)) ++ rest) (missing_seen held (suc i) seqs)
-
--- what is wrong with a version that is held, by the number of migrations
-abbrev fault_by : List ℕ × ℕ → ℕ → Option PlanFault
-fault_by v n = cond (nat_lt n v.1) (Some (TooNew v.0)) None
-
-abbrev fault_of : List SequenceTree → List ℕ × ℕ → Option PlanFault
-fault_of trees v = option_map_or (λ t. fault_by v (length t.migrations)) (find (λ t. bytes_eq t.id v.0) trees) (Some (UnknownSequence v.0))
-
-fault_seen : (seqs : List Sequence) (v : List ℕ × ℕ) → version_fault seqs v ≡ fault_of (map sequence_tree seqs) v
-fault_seen [] v = refl
-fault_seen (s ∷ seqs) v = elim (bytes_eq s.id v.0) as (λ b.
-    option_map_or (λ (x : Sequence). fault_by v (length x.migrations.items)) (cond b (Some s) (find (λ (x : Sequence). bytes_eq x.id v.0) seqs)) (Some (UnknownSequence v.0))
-    ≡ option_map_or (λ (t : SequenceTree). fault_by v (length t.migrations)) (cond b (Some (sequence_tree s)) (find (λ (t : SequenceTree). bytes_eq t.id v.0) (map sequence_tree seqs))) (Some (UnknownSequence v.0))) [
-      | true ↦ ap (fault_by v) (sym (length-map s.migrations.items migration_tree))
-      | false ↦ fault_seen seqs v
-    ]
-
-abbrev pub at_of : List SequenceTree → Place → Option MigrationTree
-at_of trees p = option_and_then (λ t. slice_get t.migrations p.migration) (slice_get trees p.sequence)
-
-pub at_seen : (seqs : List Sequence) (p : Place) → option_map migration_tree (migration_at seqs p) ≡ at_of (map sequence_tree seqs) p
-at_seen seqs p =
-    elim (slice_get seqs p.sequence) as (λ o.
-    option_map migration_tree (option_and_then (λ (s : Sequence). slice_get s.migrations.items p.migration) o)
-    ≡ option_and_then (λ (t : SequenceTree). slice_get t.migrations p.migration) (option_map sequence_tree o)) [
-      | None ↦ refl
-      | Some s ↦ sym (slice_get-map migration_tree s.migrations.items p.migration)
-    ]
-    ∙ ap (λ o. option_and_then (λ (t : SequenceTree). slice_get t.migrations p.migration) o) (sym (slice_get-map sequence_tree seqs p.sequence))
-
-abbrev depends_of : Option MigrationTree → Option MigrationTree → Bool
-depends_of (Some later) (Some earlier) = list_any (λ id. bytes_eq id earlier.id) later.depends
-depends_of (Some later) None = false
-depends_of None earlier = false
-
-depends_seen : (later earlier : Option Migration) → depends_on later earlier ≡ depends_of (option_map migration_tree later) (option_map migration_tree earlier)
-depends_seen (Some later) (Some earlier) = refl
-depends_seen (Some later) None = refl
-depends_seen None earlier = refl
-
-abbrev follows_of : List SequenceTree → Place → Place → Bool
-follows_of trees later earlier =
-    (nat_eq later.sequence earlier.sequence && nat_eq later.migration (suc earlier.migration))
-    || depends_of (at_of trees later) (at_of trees earlier)
-
-follows_seen : (seqs : List Sequence) → follows seqs ≡ follows_of (map sequence_tree seqs)
-follows_seen seqs = λ i later earlier.
-    (nat_eq later.sequence earlier.sequence && nat_eq later.migration (suc earlier.migration))
-    || (depends_seen (migration_at seqs later) (migration_at seqs earlier) ∙ λ j. depends_of (at_seen seqs later j) (at_seen seqs earlier j)) i
-
--- the plan of the sequences that trees stand for
-abbrev pub answer_of : List SequenceTree → Versions → Result (List Place) PlanFault
-answer_of trees held = option_map_or Err (first_some (fault_of trees) held) (Ok (in_order (follows_of trees) (missing_of held 0 trees)))
-
-pub answer_seen : (seqs : List Sequence) (held : Versions) → plan_answer seqs held ≡ answer_of (map sequence_tree seqs) held
-answer_seen seqs held = λ i.
-    option_map_or Err (first_some (λ v. fault_seen seqs v i) held) (Ok (in_order (follows_seen seqs i) (missing_seen held 0 seqs i)))
-
--- a plan is there, and is empty
-abbrev is_empty : Result (List Place) PlanFault → Bool
-is_empty (Ok []) = true
-is_empty (Ok (place ∷ plan)) = false
-is_empty (Err fault) = false
+use Rattle.peer_schemas.proofs.VersionLemmas.{low}
 
 checked : (s : SchemaTree) (answer : Result (List Place) PlanFault) → both_ways_only s answer ≡ Ok [] → is_empty answer ≡ true
 checked s (Ok []) is = refl
@@ -114,64 +23,16 @@ checked s (Ok (place ∷ plan)) is = elim (are_both_ways (migrations_at s.sequen
 ] is
 checked s (Err fault) is = let never : Err ServerTooOld ≡ Ok [] = is in cc
 
--- the newest migration of each sequence of the tables at a version that they have
-abbrev newest_in : ℕ → Versions
-newest_in version = map (λ (t : SequenceTree). (t.id, length t.migrations)) (sequences version)
-
--- an empty plan leads from a version to another alone that has the same types
-abbrev Leads : ℕ → ℕ → Type 0
-Leads m n = is_empty (answer_of (sequences m) (newest_in n)) ≡ true → by_name (type_rows n) ≡ by_name (type_rows m)
-
-never : (m n : ℕ) → is_empty (answer_of (sequences m) (newest_in n)) ≡ false → Leads m n
-never m n apart is = let no : true ≡ false = sym is ∙ apart in cc
-
-leads_to_0 : (n : ℕ) → Leads 0 (table_version n)
-unfolding sequences base binding shape sequence_at base_1 shape_1 shape_2 binding_1
-leads_to_0 = by_table_version (Leads 0) (λ is. refl) (never 0 1 refl) (never 0 2 refl) (never 0 3 refl)
-
-leads_to_1 : (n : ℕ) → Leads 1 (table_version n)
-unfolding sequences base binding shape sequence_at base_1 shape_1 shape_2 binding_1
-leads_to_1 = by_table_version (Leads 1) (never 1 0 refl) (λ is. refl) (never 1 2 refl) (never 1 3 refl)
-
-leads_to_2 : (n : ℕ) → Leads 2 (table_version n)
-unfolding sequences base binding shape sequence_at base_1 shape_1 shape_2 binding_1
-leads_to_2 = by_table_version (Leads 2) (never 2 0 refl) (never 2 1 refl) (λ is. refl) (never 2 3 refl)
-
-leads_to_3 : (n : ℕ) → Leads 3 (table_version n)
-unfolding sequences base binding shape sequence_at base_1 shape_1 shape_2 binding_1
-leads_to_3 = by_table_version (Leads 3) (never 3 0 refl) (never 3 1 refl) (never 3 2 refl) (λ is. refl)
-
-leads : (m n : ℕ) → Leads (table_version m) (table_version n)
-leads m n = by_table_version (λ k. Leads k (table_version n)) (leads_to_0 n) (leads_to_1 n) (leads_to_2 n) (leads_to_3 n) m
-
 -- whom an empty plan leads to a room's schema has the same types
 pub same_types : (room : SchemaTree) (m n : ℕ) → map sequence_tree room.sequences ≡ sequences (table_version m) → plan_for room (newest_at n) ≡ Ok []
     → by_name (type_rows (table_version n)) ≡ by_name (type_rows (table_version m))
 same_types room m n seen is =
-    leads m n (
+    let same : table_version m ≡ table_version n = leads (table_version m) (table_version n) (low m) (low n) (
     ap is_empty (ap (λ trees. answer_of trees (newest_at n)) (sym seen) ∙ sym (answer_seen room.sequences (newest_at n)))
     ∙ checked room (plan_answer room.sequences (newest_at n)) is
-    )
-
--- the newest migration of each of some sequences, after some versions
-abbrev pub newest_of : Versions → List SequenceTree → Versions
-newest_of held trees = fold (λ vs t. cond (nat_eq (length t.migrations) 0) vs (with_key vs t.id (length t.migrations))) held trees
-
-pub newest_seen : (held : Versions) (seqs : List Sequence)
-    → fold (λ vs (s : Sequence). cond (nat_eq (length s.migrations.items) 0) vs (with_key vs s.id (length s.migrations.items))) held seqs ≡ newest_of held (map sequence_tree seqs)
-newest_seen held [] = refl
-newest_seen held (s ∷ seqs) =
-    let after : ℕ → Versions = λ n. cond (nat_eq n 0) held (with_key held s.id n) in
-    newest_seen (after (length s.migrations.items)) seqs
-    ∙ ap (λ n. newest_of (after n) (map sequence_tree seqs)) (sym (length-map s.migrations.items migration_tree))
-
-abbrev AreNewest : ℕ → Type 0
-AreNewest n = newest_of [] (sequences n) ≡ map (λ (t : SequenceTree). (t.id, length t.migrations)) (sequences n)
-
-newest_are : (n : ℕ) → AreNewest (table_version n)
-unfolding sequences base binding shape sequence_at base_1 shape_1 shape_2 binding_1
-newest_are = by_table_version AreNewest refl refl refl refl
+    ) in
+    ap (λ version. by_name (type_rows version)) (sym same)
 
 -- the newest migrations of a schema's sequences are those of its version
 pub newest : (s : SchemaTree) (n : ℕ) → map sequence_tree s.sequences ≡ sequences (table_version n) → newest_at n ≡ newest_versions s.sequences
-newest s n seen = sym (newest_seen [] s.sequences ∙ ap (newest_of []) seen ∙ newest_are n)
+newest s n seen = sym (newest_seen [] s.sequences ∙ ap (newest_of []) seen ∙ newest_are (table_version n) (low n))

@@ -24,7 +24,7 @@ use Rattle.sync_msgs.specs.declared.end_reason.EndReason.TheVariants.{ClientTooO
 use Rattle.tl_tables.specs.Tables.{IsSchemaAt}
 use Rattle.tl_tables.specs.Trees.{Path, StepTree, add, remove, rename, map_enum, scale, nest, unnest, MigrationTree, SequenceTree, step_tree, migration_tree, sequence_tree}
 use Rattle.peer_schemas.specs.Clients.{client_at, schemas_of}
-use Rattle.peer_schemas.proofs.PlanLemmas.{at_of, at_seen, answer_of, answer_seen, newest_of, newest_seen}
+use Rattle.tl_tables.proofs.PlanLemmas.{at_of, at_seen, answer_of, answer_seen, newest_of, newest_seen}
 
 -- what a step makes of a map, and where the map stands, by what the step stands for
 abbrev row_of : Way → StepTree → Pairs → Pairs

@@ -19,10 +19,11 @@ use Rattle.sync_client.specs.declared.fault.PresenceFault.TheVariants as presenc
 use Rattle.tl_tables.specs.Migrations.{sequences}
 use Rattle.tl_tables.specs.Tables.{IsVersion, IsSchemaAt}
 use Rattle.tl_tables.specs.Types.{type_rows}
+use Rattle.tl_tables.specs.declared.tables.TheConstants.{NEWEST_VERSION}
 
--- the version of the tables at a version: above the newest one, 3, they stay as they are
+-- the version of the tables at a version: above the newest one they stay as they are
 abbrev pub table_version : ℕ → ℕ
-table_version version = min version 3
+table_version version = min version NEWEST_VERSION
 
 -- the types of the tables at a version, which alone say what is admitted, completed and a presence
 abbrev pub types_at : ℕ → SchemaTree

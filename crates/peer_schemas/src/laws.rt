@@ -13,7 +13,7 @@ pub fn tables_are_lawful()
         → AreLawfulTogether schemas }
 {}
 
-/// The schema of the tables at a version, 1 to 3, decides what is decided for a client of that version.
+/// The schema of the tables at a version that they have decides what is decided for a client of that version.
 pub fn schemas_decide_by_version()
     ensures { (version : ℕ) (s : SchemaTree) → IsVersion version → IsSchemaAt version s
         → IsDecidedBy s (client_at version) }

@@ -1,3 +1,4 @@
 pub mod Built
 pub mod Names
 pub mod Whole
+pub mod PlanLemmas

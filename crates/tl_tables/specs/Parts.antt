@@ -1,6 +1,7 @@
 -- Checks that several tables name.
 use Rattle.std.specs.Prelude.{ℕ, pos, negsuc, [], ◌∷◌, codes}
 use Rattle.record_valid.specs.Tree.{CheckTree, whole, text, one_of}
+use Rattle.tl_tables.specs.declared.parts.TheConstants.{LONGEST_TEXT, LONGEST_NAME}
 use Rattle.tl_tables.specs.Fields.{always, object_at}
 
 -- a whole number within 2^53 - 1 on either side
@@ -28,8 +29,8 @@ size = one_of (codes "s" ∷ codes "m" ∷ codes "l" ∷ codes "xl" ∷ [])
 
 -- what somebody wrote, or where an image comes from
 unfoldable pub long_text : CheckTree
-long_text = text 8192
+long_text = text LONGEST_TEXT
 
 -- a name
 unfoldable pub short_text : CheckTree
-short_text = text 256
+short_text = text LONGEST_NAME

@@ -57,7 +57,8 @@ impl Fields {
     #[tactic(auto, unfolding(crate::specs::Fields::with_field))]
     pub(crate) fn always(self, name: &str, check: Check) -> Mem<Fields>
         ensures version { IfOk result (λ f. f.version ≡ self.version) }
-        ensures table { IfOk result (λ f. f.table ≡ with_field self.version self.table (always name.now (tree_of check))) }
+        ensures table { IfOk result (λ f. f.table
+            ≡ with_field self.version self.table (always name.now (tree_of check))) }
     {
         let table = self.table.with(self.alloc, name, check)?;
         Ok(Fields {
@@ -71,7 +72,8 @@ impl Fields {
     #[tactic(auto, unfolding(crate::specs::Fields::with_field))]
     pub(crate) fn since(self, first: u32, name: &str, check: Check) -> Mem<Fields>
         ensures version { IfOk result (λ f. f.version ≡ self.version) }
-        ensures table { IfOk result (λ f. f.table ≡ with_field self.version self.table (since first name.now (tree_of check))) }
+        ensures table { IfOk result (λ f. f.table
+            ≡ with_field self.version self.table (since first name.now (tree_of check))) }
     {
         if first <= self.version {
             return self.always(name, check);
@@ -83,7 +85,8 @@ impl Fields {
     #[tactic(auto, unfolding(crate::specs::Fields::with_field))]
     pub(crate) fn until(self, last: u32, name: &str, check: Check) -> Mem<Fields>
         ensures version { IfOk result (λ f. f.version ≡ self.version) }
-        ensures table { IfOk result (λ f. f.table ≡ with_field self.version self.table (until last name.now (tree_of check))) }
+        ensures table { IfOk result (λ f. f.table
+            ≡ with_field self.version self.table (until last name.now (tree_of check))) }
     {
         if self.version <= last {
             return self.always(name, check);
@@ -94,7 +97,9 @@ impl Fields {
     /// With an id of one of some types, at every version.
     pub(crate) fn id_of(self, name: &str, types: &[&str]) -> Mem<Fields>
         ensures version { IfOk result (λ f. f.version ≡ self.version) }
-        ensures table { IfOk result (λ f. f.table ≡ with_field self.version self.table (always name.now (id_of (map (λ t. t.now) types.now)))) }
+        ensures table { IfOk result (λ f. f.table
+            ≡ with_field self.version self.table
+            (always name.now (id_of (map (λ t. t.now) types.now)))) }
     {
         let check = Check::id_of(self.alloc, types)?;
         self.always(name, check)
@@ -103,7 +108,9 @@ impl Fields {
     /// With one of some texts, at every version.
     pub(crate) fn one_of(self, name: &str, texts: &[&str]) -> Mem<Fields>
         ensures version { IfOk result (λ f. f.version ≡ self.version) }
-        ensures table { IfOk result (λ f. f.table ≡ with_field self.version self.table (always name.now (one_of (map (λ t. t.now) texts.now)))) }
+        ensures table { IfOk result (λ f. f.table
+            ≡ with_field self.version self.table
+            (always name.now (one_of (map (λ t. t.now) texts.now)))) }
     {
         let check = Check::one_of(self.alloc, texts)?;
         self.always(name, check)
@@ -112,7 +119,8 @@ impl Fields {
     /// With each of some fields, where the version has it.
     pub(crate) fn with_each(self, rows: &[Field]) -> Mem<Fields>
         ensures version { IfOk result (λ f. f.version ≡ self.version) }
-        ensures table { IfOk result (λ f. f.table ≡ with_fields self.version self.table (map field_tree rows.now)) }
+        ensures table { IfOk result (λ f. f.table
+            ≡ with_fields self.version self.table (map field_tree rows.now)) }
     {
         let mut fields = self;
         'rows: for row in rows {
@@ -124,7 +132,8 @@ impl Fields {
     // With a field, where the version has it.
     fn with_row(self, row: &Field) -> Mem<Fields>
         ensures version { IfOk result (λ f. f.version ≡ self.version) }
-        ensures table { IfOk result (λ f. f.table ≡ with_field self.version self.table (field_tree row.now)) }
+        ensures table { IfOk result (λ f. f.table
+            ≡ with_field self.version self.table (field_tree row.now)) }
     {
         let alloc = self.alloc;
         match row {

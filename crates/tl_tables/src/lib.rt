@@ -1,4 +1,4 @@
-//! The tables of a whiteboard's records: the schema at each of the versions 1 to 3.
+//! The tables of a whiteboard's records: the schema at each version.
 //!
 //! The tables stand twice, in the same order and words: as rows in `src/`, and as rows of trees in `specs/`. `schema_at`
 //! is proved to give the schema of the rows in `specs/`. A row that isn't there at every version says from which version
@@ -15,4 +15,4 @@ mod shapes;
 pub mod tables;
 mod types;
 
-pub use tables::{TableFault, schema_at};
+pub use tables::{NEWEST_VERSION, TableFault, schema_at};

@@ -20,7 +20,8 @@ pub(crate) fn texts(alloc: Global, all: &[&str]) -> Mem<Vec<Text>>
 
 /// The step that adds a text.
 pub(crate) fn add(alloc: Global, path: &[&str], key: &str, text: &str) -> Mem<MigStep>
-    ensures { IfOk result (λ s. trees.step_tree s ≡ trees.add (map (λ t. t.now) path.now) key.now (val.text text.now)) }
+    ensures { IfOk result (λ s. trees.step_tree s
+        ≡ trees.add (map (λ t. t.now) path.now) key.now (val.text text.now)) }
 {
     Ok(MigStep::Add {
         path: texts(alloc, path)?,
@@ -30,7 +31,8 @@ pub(crate) fn add(alloc: Global, path: &[&str], key: &str, text: &str) -> Mem<Mi
 }
 
 pub(crate) fn rename(alloc: Global, path: &[&str], old: &str, new: &str) -> Mem<MigStep>
-    ensures { IfOk result (λ s. trees.step_tree s ≡ trees.rename (map (λ t. t.now) path.now) old.now new.now) }
+    ensures { IfOk result (λ s. trees.step_tree s
+        ≡ trees.rename (map (λ t. t.now) path.now) old.now new.now) }
 {
     Ok(MigStep::Rename {
         path: texts(alloc, path)?,
@@ -47,7 +49,8 @@ pub(crate) fn map_enum(
     old: &str,
     new: &str,
 ) -> Mem<MigStep>
-    ensures { IfOk result (λ s. trees.step_tree s ≡ trees.map_enum (map (λ t. t.now) path.now) key.now ((old.now, new.now) ∷ [])) }
+    ensures { IfOk result (λ s. trees.step_tree s
+        ≡ trees.map_enum (map (λ t. t.now) path.now) key.now ((old.now, new.now) ∷ [])) }
 {
     Ok(MigStep::MapEnum {
         path: texts(alloc, path)?,
@@ -57,7 +60,8 @@ pub(crate) fn map_enum(
 }
 
 pub(crate) fn scale(alloc: Global, path: &[&str], key: &str, factor: u32) -> Mem<MigStep>
-    ensures { IfOk result (λ s. trees.step_tree s ≡ trees.scale (map (λ t. t.now) path.now) key.now factor) }
+    ensures { IfOk result (λ s. trees.step_tree s
+        ≡ trees.scale (map (λ t. t.now) path.now) key.now factor) }
 {
     Ok(MigStep::Scale {
         path: texts(alloc, path)?,
@@ -67,7 +71,8 @@ pub(crate) fn scale(alloc: Global, path: &[&str], key: &str, factor: u32) -> Mem
 }
 
 pub(crate) fn nest(alloc: Global, path: &[&str], keys: &[&str], into: &str) -> Mem<MigStep>
-    ensures { IfOk result (λ s. trees.step_tree s ≡ trees.nest (map (λ t. t.now) path.now) (map (λ t. t.now) keys.now) into.now) }
+    ensures { IfOk result (λ s. trees.step_tree s
+        ≡ trees.nest (map (λ t. t.now) path.now) (map (λ t. t.now) keys.now) into.now) }
 {
     Ok(MigStep::Nest {
         path: texts(alloc, path)?,

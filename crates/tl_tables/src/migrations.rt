@@ -37,7 +37,8 @@ pub(crate) fn sequences(alloc: Global, version: u32) -> Mem<Sequences>
 
 /// Drops the sequences that have no migration.
 fn drop_empty(list: &mut Vec<Sequence>)
-    ensures { map sequence_tree list.new.items ≡ filter rows.has_migrations (map sequence_tree list.old.items) }
+    ensures { map sequence_tree list.new.items
+        ≡ filter rows.has_migrations (map sequence_tree list.old.items) }
 {
     list.retain(|sequence| !sequence.migrations.is_empty());
 }
@@ -57,7 +58,8 @@ fn sequence_at(
     id: &str,
     migrations: Vec<(u32, Migration)>,
 ) -> Mem<Sequence>
-    ensures { IfOk result (λ s. sequence_tree s ≡ rows.sequence_at version id.now (map (λ m. (m.0, migration_tree m.1)) migrations.items)) }
+    ensures { IfOk result (λ s. sequence_tree s
+        ≡ rows.sequence_at version id.now (map (λ m. (m.0, migration_tree m.1)) migrations.items)) }
 {
     let mut kept = Vec::new(alloc);
     'rows: for (first, migration) in migrations {
@@ -169,13 +171,16 @@ fn outline_steps(alloc: Global) -> Mem<Vec<MigStep>>
 }
 
 fn dash_added(alloc: Global) -> Mem<MigStep>
-    ensures { IfOk result (λ s. step_tree s ≡ trees.add (codes "props" ∷ []) (codes "dash") (text (codes "draw"))) }
+    ensures { IfOk result (λ s. step_tree s
+        ≡ trees.add (codes "props" ∷ []) (codes "dash") (text (codes "draw"))) }
 {
     add(alloc, &["props"], "dash", "draw")
 }
 
 fn oval_renamed(alloc: Global) -> Mem<MigStep>
-    ensures { IfOk result (λ s. step_tree s ≡ trees.map_enum (codes "props" ∷ []) (codes "geo") ((codes "oval", codes "ellipse") ∷ [])) }
+    ensures { IfOk result (λ s. step_tree s
+        ≡ trees.map_enum (codes "props" ∷ []) (codes "geo")
+        ((codes "oval", codes "ellipse") ∷ [])) }
 {
     map_enum(alloc, &["props"], "geo", "oval", "ellipse")
 }
@@ -203,13 +208,16 @@ fn anchor_steps(alloc: Global) -> Mem<Vec<MigStep>>
 }
 
 fn anchor_nested(alloc: Global) -> Mem<MigStep>
-    ensures { IfOk result (λ s. step_tree s ≡ trees.nest (codes "props" ∷ []) (codes "anchorX" ∷ codes "anchorY" ∷ []) (codes "anchor")) }
+    ensures { IfOk result (λ s. step_tree s
+        ≡ trees.nest (codes "props" ∷ []) (codes "anchorX" ∷ codes "anchorY" ∷ [])
+        (codes "anchor")) }
 {
     nest(alloc, &["props"], &["anchorX", "anchorY"], "anchor")
 }
 
 fn coordinate_renamed(alloc: Global, old: &str, new: &str) -> Mem<MigStep>
-    ensures { IfOk result (λ s. step_tree s ≡ trees.rename (codes "props" ∷ codes "anchor" ∷ []) old.now new.now) }
+    ensures { IfOk result (λ s. step_tree s
+        ≡ trees.rename (codes "props" ∷ codes "anchor" ∷ []) old.now new.now) }
 {
     rename(alloc, &["props", "anchor"], old, new)
 }
@@ -222,7 +230,15 @@ fn both_ways(
     steps: Vec<MigStep>,
     depends: Vec<Text>,
 ) -> Mem<Migration>
-    ensures { IfOk result (λ m. migration_tree m ≡ record { id = id.now; scope = mig_scope.Record; filter = filter; steps = map step_tree steps.items; has_down = true; depends = depends.items }) }
+    ensures { IfOk result (λ m. migration_tree m
+        ≡ record {
+          id = id.now;
+          scope = mig_scope.Record;
+          filter = filter;
+          steps = map step_tree steps.items;
+          has_down = true;
+          depends = depends.items;
+        }) }
 {
     Ok(Migration {
         id: Text::of(alloc, id)?,

@@ -11,6 +11,12 @@ use std::alloc::Global;
 
 const GREATEST_WHOLE: i64 = 9_007_199_254_740_991;
 
+/// How many bytes a long text may have.
+const LONGEST_TEXT: u64 = 8_192;
+
+/// How many bytes a name may have.
+const LONGEST_NAME: u64 = 256;
+
 /// Any whole number that JSON holds exactly.
 #[tactic(auto, unfolding(crate::specs::Parts::coordinate))]
 pub(crate) fn coordinate() -> Check
@@ -88,7 +94,7 @@ pub(crate) fn size(alloc: Global) -> Mem<Check>
 pub(crate) fn long_text() -> Check
     ensures { tree_of result ≡ parts.long_text }
 {
-    Check::Text(8192)
+    Check::Text(LONGEST_TEXT)
 }
 
 /// A name.
@@ -96,5 +102,5 @@ pub(crate) fn long_text() -> Check
 pub(crate) fn short_text() -> Check
     ensures { tree_of result ≡ parts.short_text }
 {
-    Check::Text(256)
+    Check::Text(LONGEST_NAME)
 }

@@ -11,10 +11,13 @@ use schema_core::{Schema, SchemaFault};
 use std::alloc::Global;
 use thiserror::Error;
 
+/// The newest version of the tables, which have each from 1 on.
+pub const NEWEST_VERSION: u32 = 3;
+
 /// Why there is no schema.
 #[derive(Clone, Copy, Debug, PartialEq, Eq, Error)]
 pub enum TableFault {
-    /// The version isn't one of 1 to 3.
+    /// The tables don't have the version.
     #[error("there is no such version")]
     NoSuchVersion,
     /// Memory was refused.
@@ -30,12 +33,16 @@ impl From<OutOfMemory> for TableFault {
     }
 }
 
-/// The schema at a version. `NoSuchVersion` exactly for another version than 1 to 3, or `OutOfMemory`.
+/// The schema at a version. It costs the table.
+///
+/// # Errors
+///
+/// `NoSuchVersion` exactly if the tables don't have the version, which are 1 to `NEWEST_VERSION`. `OutOfMemory`.
 pub fn schema_at(alloc: Global, version: u32) -> Result<Schema, TableFault>
     ensures unknown { IsErrOf result table_fault.NoSuchVersion ↔ (¬ (IsVersion version)) }
     ensures known { IfOk result (λ s. IsSchemaAt version (schema_tree s)) }
 {
-    if version < 1 || 3 < version {
+    if version < 1 || NEWEST_VERSION < version {
         return Err(TableFault::NoSuchVersion);
     }
     let types = type_rows(alloc, version)?;

@@ -237,7 +237,8 @@ fn shape_ids(alloc: Global) -> Mem<Check>
 
 // A type whose records have these fields.
 fn type_row(alloc: Global, name: &str, scope: Scope, fields: Fields) -> Mem<TypeRow>
-    ensures { IfOk result (λ r. row_tree r ≡ (name.now, record { scope = scope; check = object (rows_of fields.table) })) }
+    ensures { IfOk result (λ r. row_tree r
+        ≡ (name.now, record { scope = scope; check = object (rows_of fields.table) })) }
 {
     Ok(TypeRow {
         name: Text::of(alloc, name)?,
