@@ -1,5 +1,5 @@
 -- The records that made recordings have, each as its fields by key.
-use Rattle.std.specs.Prelude.{ℕ, pos, nat_eq, List, [], ◌∷◌, ◌++◌, codes, decimal, false, if◌then◌else◌}
+use Rattle.std.specs.Prelude.{ℕ, pos, nat_le, List, [], ◌∷◌, ◌++◌, codes, decimal, false, if◌then◌else◌}
 use Rattle.rooms_val.specs.Data.{Data, Pairs, boolean, whole, text, list, map, no_items, members_of}
 
 -- a field that is a text
@@ -25,15 +25,15 @@ shape_id number = codes "shape:s" ++ decimal number
 
 -- how much of a shape is seen: up to version 1 `"alpha":10`
 abbrev pub alpha : ℕ → Pairs
-alpha version = if nat_eq version 1 then counts (codes "alpha") 10 ∷ [] else []
+alpha version = if nat_le version 1 then counts (codes "alpha") 10 ∷ [] else []
 
 -- how much of a shape is seen: from version 2 on `"opacity":100`
 abbrev pub opacity : ℕ → Pairs
-opacity version = if nat_eq version 1 then [] else counts (codes "opacity") 100 ∷ []
+opacity version = if nat_le version 1 then [] else counts (codes "opacity") 100 ∷ []
 
 -- how a shape is drawn: from version 3 on `"dash":"draw"`
 abbrev pub dash : ℕ → Pairs
-dash version = if nat_eq version 3 then says (codes "dash") (codes "draw") ∷ [] else []
+dash version = if nat_le 3 version then says (codes "dash") (codes "draw") ∷ [] else []
 
 -- the properties of a shape after `color` and `dash`
 abbrev pub later_props : Pairs

@@ -43,7 +43,7 @@ pub(crate) fn shape(alloc: Global, version: u32, number: u32, x: u32) -> Mem<Fie
     ensures { IfOk result (λ fields. fields ≡ shape version number x) }
 {
     let fields = bare_shape(alloc, number, props(alloc, version)?, x)?;
-    if version == 1 {
+    if version <= 1 {
         with(alloc, fields, "alpha", Val::Int(10))
     } else {
         with(alloc, fields, "opacity", Val::Int(100))
@@ -73,7 +73,7 @@ fn props(alloc: Global, version: u32) -> Mem<Fields>
     ensures { IfOk result (λ fields. fields ≡ props version) }
 {
     let fields = common_props(alloc)?;
-    if version == 3 {
+    if 3 <= version {
         with_text(alloc, fields, "dash", "draw")
     } else {
         Ok(fields)
