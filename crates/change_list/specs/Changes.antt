@@ -2,6 +2,7 @@
 use Rattle.std.specs.Prelude.{◌≡◌, ℕ, ◌-◌, ◌≤ℤ◌, ℤ, pos, Bool, true, false, not, if◌then◌else◌, nat_lt, int_lt, List, [], ◌∷◌, ◌++◌, map, filter, length, slice_index_or, All, Contains, IsPermutation, IsSortedBy}
 use Rattle.std.specs.Ordering.{nat_cmp, is_eq, is_lt}
 use Rattle.std.specs.Cmp.Lexicographic.{slice_cmp}
+use Rattle.room_model.specs.declared.limits.TheConstants.{MOST_DEAD, KEPT_DEAD}
 use Rattle.change_list.specs.declared.entries.Change.{Change}
 
 -- what contracts see of a `ChangeList`: the live and the dead changes, each in the order of their clocks, where the
@@ -67,10 +68,10 @@ pub record AreSince (changes : List Change) (clock : ℤ) (answer : List Change)
 
 -- how many may be dead before some are dropped, and how many then stay, unless more share a clock
 abbrev pub most_dead : ℕ
-most_dead = 3000
+most_dead = MOST_DEAD
 
 abbrev pub kept_dead : ℕ
-kept_dead = 2700
+kept_dead = KEPT_DEAD
 
 -- where the dead begin after a pruning: where more than `most` are dead, at the clock of the one with `kept` after it
 abbrev pub next_start : ℕ → ℕ → ℤ → List Change → ℤ

@@ -4,7 +4,7 @@
 //! that it had not long ago. Contracts see the live and the dead changes as two lists in the order
 //! of their last change, where the dead begin, and how many new ids need no memory
 //! (`specs/Changes.antt`). The crate stands on `links_core`, whose lists hold the ids in that
-//! order, and on `rooms_val` for texts and steps.
+//! order, on `rooms_val` for texts and steps, and on `room_model` for how many dead are remembered.
 #![tactic(auto)]
 
 mod change_list;

@@ -6,12 +6,13 @@ ghost use Rattle.change_list.specs.Kept.{changes_at, AreFreed, stays_at};
 
 use crate::entries::{Change, clock_of, is_after};
 use links_core::{Links, ListId};
+use room_model::limits;
 
 /// How many may be dead before some are dropped.
-pub(crate) const MOST_DEAD: usize = 3_000;
+pub(crate) const MOST_DEAD: usize = limits::MOST_DEAD as usize;
 
 /// How many dead ones are kept at most, and more only if they share a clock.
-pub(crate) const KEPT_DEAD: usize = 2_700;
+pub(crate) const KEPT_DEAD: usize = limits::KEPT_DEAD as usize;
 
 /// The clock of the change at a place of a list, counted from 0.
 pub(crate) fn clock_at(links: &Links, list: ListId, entries: &[Change], place: usize) -> i64

@@ -4,7 +4,7 @@ use Rattle.std.specs.Prelude.{nat_lt}
 use Rattle.std.proofs.lemmas.Int.{to_z-of_z}
 use Rattle.std.proofs.lemmas.List.{length-map}
 use Rattle.links_core.specs.Lists.{list_at}
-use Rattle.change_list.specs.Changes.{blank, is_after}
+use Rattle.change_list.specs.Changes.{blank, is_after, most_dead, kept_dead}
 use Rattle.change_list.specs.Kept.{entry_at, changes_at}
 use Rattle.change_list.proofs.PruneLemmas.{pruned_kept, next_dead_is, length_filter, map_filter}
 use Rattle.change_list.proofs.change_list.ChangeList.prune.Goals as goal
@@ -35,10 +35,10 @@ returns-clause-dead c =
     let entries = c.self.inside.entries.items in
     let nodes = list_at c.self.inside.links.lists 1 in
     let counted = c.self.invariant.kept.counted ∙ sym (length-map nodes (entry_at entries)) in
-    let more : nat_lt 3000 (length (changes_at entries nodes)) ≡ true = lt-ltb 3000 (length (changes_at entries nodes)) (omega (arith, c.if-self-le-MOST_DEAD.false, counted)) in
+    let more : nat_lt most_dead (length (changes_at entries nodes)) ≡ true = lt-ltb most_dead (length (changes_at entries nodes)) (omega (arith, c.if-self-le-MOST_DEAD.false, counted)) in
     let found = rw (c.deref.ensures.value, c.self.invariant.dead_is) at c.clock_at-self-inside.ensures in
-    let place = ap (λ m. (get_or (changes_at entries nodes) (m - 2700 - 1) blank).clock) counted in
-    rw (← c.self.view_is) (ap (changes_at entries) freed.dead ∙ map_filter entries (is_after c.clock_at-self-inside.result) nodes ∙ next_dead_is 3000 2700 c.self.inside.start c.clock_at-self-inside.result (changes_at entries nodes) more (found ∙ place))
+    let place = ap (λ m. (get_or (changes_at entries nodes) (m - kept_dead - 1) blank).clock) counted in
+    rw (← c.self.view_is) (ap (changes_at entries) freed.dead ∙ map_filter entries (is_after c.clock_at-self-inside.result) nodes ∙ next_dead_is most_dead kept_dead c.self.inside.start c.clock_at-self-inside.result (changes_at entries nodes) more (found ∙ place))
 
 pub returns-clause-spare : goal.returns-clause-spare
 returns-clause-spare c =
