@@ -6,11 +6,9 @@ ghost use Rattle.live_views.specs.Telling.{told_of};
 
 use rooms_val::{Fields, Mem, Text, Val, Vals};
 use shape_tree::Rect;
+use shape_tree::limits::MOST_SHAPES;
 use std::alloc::Global;
 use tl_rules::TlValue;
-
-// How many shapes a tree lists at most.
-const MOST_SHAPES: u64 = 1_000_000;
 
 // The value by which an answer is told.
 pub(crate) fn told_value(alloc: Global, value: &TlValue) -> Mem<Val>
@@ -19,7 +17,7 @@ pub(crate) fn told_value(alloc: Global, value: &TlValue) -> Mem<Val>
     match value {
         TlValue::Rec(_) => Ok(Val::Null),
         TlValue::Ids(ids) => told_ids(alloc, ids.as_slice()),
-        TlValue::Number(number) => Ok(Val::Int((*number).min(MOST_SHAPES) as i64)),
+        TlValue::Number(number) => Ok(Val::Int((*number).min(MOST_SHAPES as u64) as i64)),
         TlValue::Rect(None) => Ok(Val::Null),
         TlValue::Rect(Some(rect)) => told_box(alloc, *rect),
     }

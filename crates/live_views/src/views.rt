@@ -15,13 +15,11 @@ use crate::telling::told_value;
 use record_store::{RecordStore, WatchFault, WatchId};
 use rooms_val::{Mem, Steps, Val};
 use shape_tree::View;
+use shape_tree::limits::MOST_LEVELS;
 use signal_core::MOST_WATCHES;
 use std::alloc::Global;
 use std::sync::ledger::Ledger;
 use tl_rules::{Level, TlKey, TlValue};
-
-// How many levels below a shape its box looks.
-const MOST_LEVELS: u8 = 32;
 
 /// What a view tells of the records. It is computed anew only where it may differ: it costs a look-up where nothing changed
 /// on which it hangs.

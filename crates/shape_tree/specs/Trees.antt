@@ -5,6 +5,7 @@ use Rattle.std.specs.declared.cmp.Ordering.{Ordering}
 use Rattle.std.specs.Ordering.{ordering_then}
 use Rattle.rooms_val.specs.Data.{Data, Pairs}
 use Rattle.rooms_val.specs.Maps.{order, ties}
+use Rattle.shape_tree.specs.declared.limits.TheConstants.{MOST_LEVELS, MOST_SHAPES}
 use Rattle.shape_tree.specs.Records.{text_or_empty, is_shape, is_binding}
 use Rattle.shape_tree.specs.Sorting.{in_order}
 
@@ -35,10 +36,10 @@ descendants (suc levels) m parent = flat_map (λ child. child ∷ descendants le
 
 -- how many levels a tree or a box looks down, how many shapes a tree lists, and how many children a box looks at
 abbrev pub most_levels : ℕ
-most_levels = 32
+most_levels = MOST_LEVELS
 
 abbrev pub most_shapes : ℕ
-most_shapes = 1000000
+most_shapes = MOST_SHAPES
 
 -- the shapes below a page
 abbrev pub tree : Pairs → List ℕ → List (List ℕ)

@@ -9,6 +9,7 @@
 mod boxes;
 mod index;
 mod laws;
+pub mod limits;
 mod listing;
 mod place;
 mod query;

@@ -6,15 +6,10 @@ ghost use Rattle.shape_tree.specs.Trees.{children, tree, most_shapes};
 ghost use Rattle.shape_tree.specs.Index.{places_view, place_order, Rises, AreListed};
 
 use crate::index::{index_of, siblings};
+use crate::limits::{MOST_LEVELS, MOST_SHAPES};
 use crate::place::Place;
 use rooms_val::{Mem, Text, Val};
 use std::alloc::Global;
-
-// How many levels below a page its tree goes.
-const MOST_LEVELS: u8 = 32;
-
-// How many shapes a tree lists.
-const MOST_SHAPES: usize = 1_000_000;
 
 /// The shapes whose `parentId` is the parent, by index and then by id.
 ///

@@ -7,15 +7,13 @@ use case_tables::printed;
 use live_views::{WatchFault, WatchId, told, view, watch};
 use record_store::RecordStore;
 use rooms_val::{Steps, Text, Val};
+use shape_tree::limits::MOST_LEVELS;
 use shape_tree::{Rect, View};
 use std::alloc::Global;
 use std::marker::Brand;
 use std::sync::ledger::{Blank, Ledger};
 use std::test::Fail;
 use tl_rules::{Level, TlKey, TlValue};
-
-// How many levels below a shape its box looks.
-const MOST_LEVELS: u8 = 32;
 
 // The key of a text.
 fn key(alloc: Global, asked: &str) -> Result<TlKey, Fail> {

@@ -4,12 +4,10 @@ use crate::calls::text_at;
 use crate::texts::{cut, names, text};
 use doc_store::DocStore;
 use rooms_val::{Mem, Text, Val};
+use shape_tree::limits::MOST_LEVELS;
 use shape_tree::{Rect, children, own_box, tree};
 use std::alloc::Global;
 use std::test::Fail;
-
-// How many levels below a shape its box looks.
-const MOST_LEVELS: u32 = 32;
 
 // The records of a store, by their ids.
 pub(crate) fn records<D: DocStore>(alloc: Global, store: &D) -> Mem<Vec<Val>> {

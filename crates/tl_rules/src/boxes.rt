@@ -14,12 +14,10 @@ use crate::level::Level;
 use crate::value::TlValue;
 use record_valid::id_type;
 use rooms_val::{Mem, Text, Val};
+use shape_tree::limits::MOST_SHAPES;
 use shape_tree::{Rect, join_box, move_box, own_box};
 use signal_rules::Ask;
 use std::alloc::Global;
-
-// How many children a box looks at.
-const MOST_CHILDREN: usize = 1_000_000;
 
 // What the box of a shape with what is so many levels below it asks for: the record, and if that is a shape the children
 // and the box of each.
@@ -76,7 +74,7 @@ fn is_shape(id: &str) -> bool
 fn first_children(children: &[Text]) -> &[Text]
     ensures { result.now ≡ take most_shapes children.now }
 {
-    match children.split_at_checked(MOST_CHILDREN) {
+    match children.split_at_checked(MOST_SHAPES) {
         Some((first, _)) => first,
         None => children,
     }

@@ -13,14 +13,9 @@ use crate::ids::Ids;
 use crate::key::TlKey;
 use crate::value::TlValue;
 use rooms_val::{Mem, Text};
+use shape_tree::limits::{MOST_LEVELS, MOST_SHAPES};
 use signal_rules::Ask;
 use std::alloc::Global;
-
-// How many levels below a page its tree goes.
-const MOST_LEVELS: u8 = 32;
-
-// How many shapes a tree lists.
-const MOST_SHAPES: usize = 1_000_000;
 
 // How many children of a page are asked in a row. Some of them may not be listed; so many more asks are allowed for.
 const MOST_AT_ONCE: usize = 32_768;
