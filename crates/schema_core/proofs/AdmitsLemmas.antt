@@ -18,6 +18,7 @@ use Rattle.rooms_val.specs.Maps.{value_at}
 use Rattle.schema_core.specs.Admits.{admission_by, admission, IsAdmitted}
 use Rattle.schema_core.specs.declared.row.Scope.{Scope}
 use Rattle.schema_core.specs.declared.fault.RecordFault.TheVariants.{BadId, UnknownType, Rejected, TooHeavy}
+use Rattle.schema_core.specs.declared.schema.TheConstants.{GREATEST_WEIGHT}
 
 text_law : (t : List ℕ) (o : Option Data) → (has_text t o ≡ true) ↔ (o ≡ Some (text t))
 text_law t None = (λ h. (cc), λ h. (cc))
@@ -50,22 +51,22 @@ tests None true scope = (λ h. (refl, refl), λ h. refl)
 tests None false scope = (λ h. (cc), λ h. let f = h.1 in (cc))
 tests (Some r) light scope = (λ h. (cc), λ h. let f = h.0 in (cc))
 
-type_law : (d : Data) (t : TypeTree) → (is_ok (admission_by d t) ≡ true) ↔ (Fits None t.check d × (weight d ≤ 32768))
+type_law : (d : Data) (t : TypeTree) → (is_ok (admission_by d t) ≡ true) ↔ (Fits None t.check d × (weight d ≤ GREATEST_WEIGHT))
 type_law d t =
-    let tested = tests (check.first_fault 0 None t.check d) (nat_le (weight d) 32768) t.scope in
+    let tested = tests (check.first_fault 0 None t.check d) (nat_le (weight d) GREATEST_WEIGHT) t.scope in
     let fits = checks.law 0 None t.check d in (
-      λ h. let facts = tested.0 h in (fits.0 facts.0, leb-true (weight d) 32768 facts.1),
-      λ h. tested.1 (fits.1 h.0, le-leb (weight d) 32768 h.1),
+      λ h. let facts = tested.0 h in (fits.0 facts.0, leb-true (weight d) GREATEST_WEIGHT facts.1),
+      λ h. tested.1 (fits.1 h.0, le-leb (weight d) GREATEST_WEIGHT h.1),
     )
 
-known_law : (d : Data) (o : Option TypeTree) → (is_ok (option_map_or (admission_by d) o (Err UnknownType)) ≡ true) ↔ (IsSomeAnd o (λ t. Fits None t.check d) × (weight d ≤ 32768))
+known_law : (d : Data) (o : Option TypeTree) → (is_ok (option_map_or (admission_by d) o (Err UnknownType)) ≡ true) ↔ (IsSomeAnd o (λ t. Fits None t.check d) × (weight d ≤ GREATEST_WEIGHT))
 known_law d None = (λ h. (cc), λ h. absurd h.0)
 known_law d (Some t) = type_law d t
 
 module _ (id : List ℕ) (d : Data) (look : List ℕ → Option TypeTree) where
   own_tests : (name : List ℕ) (p q : Bool)
       → (is_ok (option_map_or (λ x. option_map_or (admission_by d) (look x) (Err UnknownType)) (cond (p && q) (Some name) None) (Err BadId)) ≡ true)
-      ↔ ((p ≡ true) × (q ≡ true) × IsSomeAnd (look name) (λ t. Fits None t.check d) × (weight d ≤ 32768))
+      ↔ ((p ≡ true) × (q ≡ true) × IsSomeAnd (look name) (λ t. Fits None t.check d) × (weight d ≤ GREATEST_WEIGHT))
   own_tests name true true = let known = known_law d (look name) in (λ h. let facts = known.0 h in (refl, refl, facts.0, facts.1), λ h. known.1 (h.2, h.3))
   own_tests name true false = (λ h. (cc), λ h. let f = h.1 in (cc))
   own_tests name false q = (λ h. (cc), λ h. let f = h.0 in (cc))
@@ -73,7 +74,7 @@ module _ (id : List ℕ) (d : Data) (look : List ℕ → Option TypeTree) where
   -- by what stands in the record under `id` and `typeName`, and the name that the id begins with
   found_law : (part : Option (List ℕ)) (own type : Option Data)
       → (is_ok (option_map_or (λ x. option_map_or (admission_by d) (look x) (Err UnknownType)) (option_and_then (λ name. cond (has_text id own && has_text name type) (Some name) None) part) (Err BadId)) ≡ true)
-      ↔ ((own ≡ Some (text id)) × IsSomeAnd (option_and_then as_text type) (λ x. IsSomeAnd part (Contains (x ∷ []))) × IsSomeAnd (option_and_then look part) (λ t. Fits None t.check d) × (weight d ≤ 32768))
+      ↔ ((own ≡ Some (text id)) × IsSomeAnd (option_and_then as_text type) (λ x. IsSomeAnd part (Contains (x ∷ []))) × IsSomeAnd (option_and_then look part) (λ t. Fits None t.check d) × (weight d ≤ GREATEST_WEIGHT))
   found_law None own type = (λ h. (cc), λ h. absurd h.2)
   found_law (Some name) own type =
       let tested = own_tests name (has_text id own) (has_text name type) in (

@@ -20,6 +20,7 @@ use Rattle.schema_core.specs.Admits.{type_of, admission_by, admission, IsAdmitte
 use Rattle.schema_core.specs.declared.row.Scope.{Scope}
 use Rattle.schema_core.specs.declared.fault.RecordFault.{RecordFault}
 use Rattle.schema_core.specs.declared.fault.RecordFault.TheVariants.{BadId, UnknownType, Rejected, TooHeavy}
+use Rattle.schema_core.specs.declared.schema.TheConstants.{GREATEST_WEIGHT}
 use Rattle.schema_core.proofs.AdmitsLemmas.{law}
 
 -- the value after a patch
@@ -54,14 +55,14 @@ module _ (id : List ℕ) (d : Data) (look : List ℕ → Option TypeTree) where
   scope_found None own type t is ok = (cc)
   scope_found (Some name) own type t is ok =
       elim (has_text id own && has_text name type) as (λ b. is_ok (answer (cond b (Some name) None)) ≡ true → answer (cond b (Some name) None) ≡ Ok t.scope) [
-        | true ↦ subst (λ o. is_ok (option_map_or (admission_by d) o (Err UnknownType)) ≡ true → option_map_or (admission_by d) o (Err UnknownType) ≡ Ok t.scope) (sym is) (scope_by (check.first_fault 0 None t.check d) (nat_le (weight d) 32768) t.scope)
+        | true ↦ subst (λ o. is_ok (option_map_or (admission_by d) o (Err UnknownType)) ≡ true → option_map_or (admission_by d) o (Err UnknownType) ≡ Ok t.scope) (sym is) (scope_by (check.first_fault 0 None t.check d) (nat_le (weight d) GREATEST_WEIGHT) t.scope)
         | false ↦ λ h. (cc)
       ] ok
 
 -- what was left is admitted, with the scope of its type
 pub patched_law : (s : SchemaTree) (id : List ℕ) (before : Data) (patch : Patch) (t : TypeTree) → type_of s id ≡ Some t → IsAdmitted s id before
     → value_at patch (codes "id") ≡ None → value_at patch (codes "typeName") ≡ None
-    → Fits None t.check (left_by patch before) → weight (left_by patch before) ≤ 32768
+    → Fits None t.check (left_by patch before) → weight (left_by patch before) ≤ GREATEST_WEIGHT
     → admission s id (left_by patch before) ≡ Ok t.scope
 patched_law s id before patch t is admitted own named fits light =
     let left = left_by patch before in

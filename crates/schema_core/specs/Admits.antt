@@ -15,6 +15,7 @@ use Rattle.schema_core.specs.declared.row.Scope.{Scope}
 use Rattle.schema_core.specs.declared.row.Scope.TheVariants.{Document, Session, Presence}
 use Rattle.schema_core.specs.declared.fault.RecordFault.{RecordFault}
 use Rattle.schema_core.specs.declared.fault.RecordFault.TheVariants.{BadId, UnknownType, Rejected, TooHeavy}
+use Rattle.schema_core.specs.declared.schema.TheConstants.{GREATEST_WEIGHT}
 
 -- the type of the records under an id, and none where the text is no id of a known type
 abbrev pub type_of : SchemaTree → List ℕ → Option TypeTree
@@ -45,7 +46,7 @@ own_type id d = option_and_then (λ name. if has_id_and_type id name d then Some
 
 -- the scope of a record by what is said of its type, or what is wrong with it
 abbrev pub admission_by : Data → TypeTree → Result Scope RecordFault
-admission_by d t = option_map_or (λ reject. Err (Rejected reject)) (check.first_fault 0 None t.check d) (if nat_le (weight d) 32768 then Ok t.scope else Err TooHeavy)
+admission_by d t = option_map_or (λ reject. Err (Rejected reject)) (check.first_fault 0 None t.check d) (if nat_le (weight d) GREATEST_WEIGHT then Ok t.scope else Err TooHeavy)
 
 -- the scope of a record that is admitted under an id, or the first of the four refusals
 abbrev pub admission : SchemaTree → List ℕ → Data → Result Scope RecordFault
@@ -66,4 +67,4 @@ pub record IsAdmitted (s : SchemaTree) (id : List ℕ) (d : Data) : Type 0 where
   pub typed : IsSomeAnd (option_and_then as_text (field d (codes "typeName"))) (λ name. IsIdOf (name ∷ []) id)
   -- the type is known, and the record fits its check
   pub fits : IsSomeAnd (type_of s id) (λ t. Fits None t.check d)
-  pub light : weight d ≤ 32768
+  pub light : weight d ≤ GREATEST_WEIGHT

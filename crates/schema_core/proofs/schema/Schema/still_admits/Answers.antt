@@ -9,6 +9,7 @@ use Rattle.record_valid.proofs.ByKeyLemmas.{unnamed_by}
 use Rattle.schema_core.specs.Admits.{type_of, admission}
 use Rattle.schema_core.specs.SchemaOf.{schema_tree}
 use Rattle.schema_core.specs.View.{type_tree}
+use Rattle.schema_core.specs.declared.schema.TheConstants.{GREATEST_WEIGHT}
 use Rattle.schema_core.proofs.PatchedLemmas.{left_by, patched_law, fitted}
 use Rattle.schema_core.proofs.schema.Schema.still_admits.Goals as goal
 
@@ -22,7 +23,7 @@ returns-then-weight-le-GREATEST_WEIGHT c before sound admitted is =
     ap (option_and_then (value_at s.types)) (sym c.id_type.ensures ∙ ap (option_map (λ n. n.now)) c.in_ok-id_type.was)
     ∙ sym c.type_named.ensures ∙ ap (option_map (λ t. type_tree t.now)) c.in_ok-found.was in
     let fits : Fits None (tree_of c.in_ok-found.found.now.check) (data_of c.args.left.now) = (c.still_fits.ensures before sound (fitted s id before _ found admitted) is).0 c.if-still_fits.true in
-    let light : weight (data_of c.args.left.now) ≤ 32768 = omega (arith, c.weight.ensures, c.if-weight-le-GREATEST_WEIGHT.true) in
+    let light : weight (data_of c.args.left.now) ≤ GREATEST_WEIGHT = omega (arith, c.weight.ensures, c.if-weight-le-GREATEST_WEIGHT.true) in
     subst (λ d. admission s id d ≡ Ok c.in_ok-found.found.now.scope) (sym is)
     (patched_law s id before c.args.patch.now (type_tree c.in_ok-found.found.now) found admitted own named
-    (subst (λ d. Fits None (tree_of c.in_ok-found.found.now.check) d) is fits) (subst (λ d. weight d ≤ 32768) is light))
+    (subst (λ d. Fits None (tree_of c.in_ok-found.found.now.check) d) is fits) (subst (λ d. weight d ≤ GREATEST_WEIGHT) is light))
