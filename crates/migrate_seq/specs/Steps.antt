@@ -1,11 +1,11 @@
 -- What each step of a migration makes of a record, up and down.
-use Rattle.std.specs.Prelude.{ℕ, nat_le, true, ◌/◌, ℤ, pos, negsuc, ◌*ℤ◌, List, [], ◌∷◌, Bool, if◌then◌else◌, Option, Some, None, is_some}
+use Rattle.std.specs.Prelude.{ℕ, nat_le, true, ◌/◌, ℤ, pos, negsuc, neg_ℤ, ◌*ℤ◌, List, [], ◌∷◌, Bool, if◌then◌else◌, Option, Some, None, is_some}
 use Rattle.std.specs.Prelude as std
 use Rattle.std.specs.Int.{int_min, int_max}
 use Rattle.std.specs.Option.{option_map_or}
 use Rattle.std.specs.Str.{bytes_eq}
 use Rattle.rooms_val.specs.Data.{Data, null, boolean, whole, text, list, map, pairs_of, members_of, Pairs}
-use Rattle.rooms_val.specs.Json.{greatest_whole}
+use Rattle.rooms_val.specs.declared.limits.TheConstants.{GREATEST_WHOLE}
 use Rattle.rooms_val.specs.Kinds.{on_map}
 use Rattle.rooms_val.specs.Maps.{value_at, with_key, without_key}
 use Rattle.rooms_val.specs.View.{data_of}
@@ -53,9 +53,9 @@ replaced pairs (whole z) = whole z
 replaced pairs (list ds) = list ds
 replaced pairs (map ms) = map ms
 
--- the number nearest to a number within 2^53 - 1 on either side
+-- the number nearest to a number within the greatest whole number on either side
 abbrev pub held : ℤ → ℤ
-held z = int_max (negsuc 9007199254740990) (int_min z (pos greatest_whole))
+held z = int_max (neg_ℤ GREATEST_WHOLE) (int_min z GREATEST_WHOLE)
 
 -- a number is multiplied and held, and another value stays
 abbrev pub scaled : ℕ → Data → Data

@@ -6,11 +6,9 @@ ghost use Rattle.std.specs.Prelude.{pos, ◌*ℤ◌};
 ghost use Rattle.migrate_seq.specs.Steps.{held, at_path, row, added, changed_at, renamed, moved, moved_one, nested, unnested, replacement, toward, replaced, scaled, divided, can_scale};
 
 use crate::step::{MigStep, Way};
+use rooms_val::limits::GREATEST_WHOLE;
 use rooms_val::{Fields, Mem, Text, Val};
 use std::alloc::Global;
-
-/// The greatest whole number that every reader of JSON takes exactly.
-const GREATEST_WHOLE: i64 = 9_007_199_254_740_991;
 
 // A value after a step on the map that a path leads to.
 pub(crate) fn walk(alloc: Global, val: Val, path: &[Text], step: &MigStep, way: Way) -> Mem<Val>
@@ -111,7 +109,8 @@ fn replace(
     pairs: &[(Text, Text)],
     way: Way,
 ) -> Mem<()>
-    ensures { OnOk result (fields.new ≡ changed_at key.now (replaced (toward way pairs.now)) fields.old) }
+    ensures { OnOk result (fields.new
+        ≡ changed_at key.now (replaced (toward way pairs.now)) fields.old) }
 {
     let _ = fields.len();
     if let Some(val) = fields.take(key.as_str())? {
@@ -135,7 +134,8 @@ fn replaced(alloc: Global, val: Val, pairs: &[(Text, Text)], way: Way) -> Mem<Va
 
 // What stands for a text by the first pair that has it.
 fn replacement<'a>(pairs: &'a [(Text, Text)], way: Way, text: &Text) -> Option<&'a Text>
-    ensures { option_map_or (λ t. t.now) result text.now ≡ replacement (toward way pairs.now) text.now }
+    ensures { option_map_or (λ t. t.now) result text.now
+        ≡ replacement (toward way pairs.now) text.now }
 {
     for (first, second) in pairs {
         let (from, to) = match way {

@@ -1,7 +1,9 @@
 //! The limits of rooms and worlds.
 
+use rooms_val::limits::GREATEST_WHOLE;
+
 /// The most pushes of a client: 2^53 - 1, the greatest whole number that JSON's readers agree on.
-pub const MOST_PUSHES: u64 = 9_007_199_254_740_991;
+pub const MOST_PUSHES: u64 = GREATEST_WHOLE as u64;
 
 /// The most pings of a session that wait; a further one isn't counted.
 pub const MOST_PINGS: u64 = 4_294_967_295;
@@ -25,7 +27,7 @@ pub const MOST_TOLD: u64 = 32;
 pub const MOST_SESSIONS: u64 = 64;
 
 /// The most sessions that ever enter a room: 2^53 - 1.
-pub const MOST_ENTERED: u64 = 9_007_199_254_740_991;
+pub const MOST_ENTERED: u64 = GREATEST_WHOLE as u64;
 
 /// The number of the protocol that rooms speak.
 pub const PROTOCOL: i64 = 1;
@@ -37,4 +39,4 @@ pub const MOST_CLIENTS: u64 = 64;
 pub const MOST_RECORDED: u64 = 4_096;
 
 /// The clock from which on the room of a recording refuses pushes: 2^53 - 65.
-pub const LAST_CLOCK: u64 = 9_007_199_254_740_927;
+pub const LAST_CLOCK: u64 = GREATEST_WHOLE as u64 - 64;

@@ -1,5 +1,5 @@
 -- The JSON that a value is, the value that some JSON is, and what keeps JSON from being a value.
-use Rattle.std.specs.Prelude.{ℕ, nat_le, nat_lt, ℤ, pos, negsuc, List, Bool, true, not, ◌&&◌, if◌then◌else◌, unwrap_or, Result, Ok, Err}
+use Rattle.std.specs.Prelude.{ℕ, nat_le, nat_lt, ℤ, pos, negsuc, List, Bool, true, not, ◌&&◌, if◌then◌else◌, unsigned_abs, unwrap_or, Result, Ok, Err}
 use Rattle.std.specs.Option.{ok_or}
 use Rattle.std.specs.Str.{is_utf8}
 use Rattle.json.specs.Token.{Token}
@@ -12,6 +12,7 @@ use Rattle.serde_json.specs.Written.{has_float, compact_text, outline, items_out
 use Rattle.rooms_val.specs.Data.{Data, null, boolean, whole, text, list, map, Items, no_items, item, Members, no_members, member}
 use Rattle.rooms_val.specs.declared.fault.ValFault.{ValFault}
 use Rattle.rooms_val.specs.declared.fault.ValFault.TheVariants.{BadJson, NotWhole, OutOfRange, TooDeep}
+use Rattle.rooms_val.specs.declared.limits.TheConstants.{GREATEST_WHOLE}
 
 -- the JSON of a value
 abbrev mutual
@@ -53,9 +54,9 @@ abbrev mutual
   members_in json.no_members = no_members
   members_in (json.member k j ms) = member k (value_in j) (members_in ms)
 
--- the greatest whole number that every reader of JSON takes exactly: 2^53 - 1
+-- the greatest whole number that every reader of JSON takes exactly
 abbrev pub greatest_whole : ℕ
-greatest_whole = 9007199254740991
+greatest_whole = unsigned_abs GREATEST_WHOLE
 
 -- a whole number lies within the greatest one on either side
 abbrev pub is_in_range : json.Num → Bool

@@ -10,6 +10,7 @@ pub mod fault;
 pub mod fields;
 mod from_json;
 mod json_text;
+pub mod limits;
 pub mod memory;
 pub mod order;
 pub mod steps;

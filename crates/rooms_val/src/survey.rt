@@ -6,10 +6,8 @@ ghost use Rattle.serde_json.specs.Find.{is_float};
 ghost use Rattle.serde_json.specs.Written.{has_float, items_have_float, members_have_float};
 ghost use Rattle.rooms_val.specs.Json.{is_in_range, is_within, items_are_within, members_are_within};
 
+use crate::limits::GREATEST_WHOLE;
 use serde_json::{Map, Number, Value};
-
-/// The greatest whole number that every reader of JSON takes exactly; the least is this one negated.
-const GREATEST_WHOLE: i64 = (1 << 53) - 1;
 
 /// What some JSON has, each in all of it.
 #[derive(Clone, Copy)]

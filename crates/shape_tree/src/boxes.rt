@@ -9,9 +9,7 @@ ghost use Rattle.shape_tree.specs.Boxes.{under, number_from, coordinate, size, p
 use crate::records::text_or_empty;
 use crate::rect::{Rect, around, join_box};
 use rooms_val::Val;
-
-// The greatest whole number of JSON.
-const GREATEST_WHOLE: i64 = 9_007_199_254_740_991;
+use rooms_val::limits::GREATEST_WHOLE;
 
 /// The box of a shape by itself, as seen from its own place: by its size, around its points, or around its ends. `None`
 /// exactly for a group, a drawing without points, and a shape of an unknown type.

@@ -1,16 +1,17 @@
 -- Checks that several tables name.
-use Rattle.std.specs.Prelude.{ℕ, pos, negsuc, [], ◌∷◌, codes}
+use Rattle.std.specs.Prelude.{ℕ, pos, neg_ℤ, [], ◌∷◌, codes}
+use Rattle.rooms_val.specs.declared.limits.TheConstants.{GREATEST_WHOLE}
 use Rattle.record_valid.specs.Tree.{CheckTree, whole, text, one_of}
 use Rattle.tl_tables.specs.declared.parts.TheConstants.{LONGEST_TEXT, LONGEST_NAME}
 use Rattle.tl_tables.specs.Fields.{always, object_at}
 
--- a whole number within 2^53 - 1 on either side
+-- a whole number within the greatest one on either side
 unfoldable pub coordinate : CheckTree
-coordinate = whole (negsuc 9007199254740990) (pos 9007199254740991)
+coordinate = whole (neg_ℤ GREATEST_WHOLE) GREATEST_WHOLE
 
 -- such a number from 0
 unfoldable pub extent : CheckTree
-extent = whole (pos 0) (pos 9007199254740991)
+extent = whole (pos 0) GREATEST_WHOLE
 
 unfoldable pub point : ℕ → CheckTree
 point version = object_at version (always (codes "x") coordinate ∷ always (codes "y") coordinate ∷ [])

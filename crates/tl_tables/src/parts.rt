@@ -7,9 +7,8 @@ use crate::fields::{Field, Fields};
 use crate::rules::Rule;
 use record_valid::Check;
 use rooms_val::Mem;
+use rooms_val::limits::GREATEST_WHOLE;
 use std::alloc::Global;
-
-const GREATEST_WHOLE: i64 = 9_007_199_254_740_991;
 
 /// How many bytes a long text may have.
 const LONGEST_TEXT: u64 = 8_192;
