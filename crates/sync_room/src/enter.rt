@@ -1,5 +1,5 @@
 //! Who enters a room, and who leaves it.
-ghost use Rattle.std.specs.Prelude.{◌≡◌, ◌≢◌, Bool, true, false, length, IfOk, OnOk, OnErr, Some, None};
+ghost use Rattle.std.specs.Prelude.{◌≡◌, ◌≢◌, ◌↔◌, Bool, true, false, length, IfOk, OnOk, OnErr, Some, None};
 ghost use Rattle.room_model.specs.Rooms as model;
 ghost use Rattle.room_model.specs.Rooms.{is_full, enter, after_enter, after_leave};
 ghost use Rattle.sync_room.specs.Sessions.{IsIn};
@@ -38,14 +38,17 @@ impl Room {
     ///
     /// # Errors
     ///
-    /// `Full` exactly if 64 sessions are in the room, or 2^53 - 1 have entered. After either fault
-    /// the room is as it was.
+    /// `Full` exactly if 64 sessions are in the room, or 2^53 - 1 have entered; a full room never
+    /// returns `OutOfMemory`. After either fault the room is as it was.
     pub fn enter(&mut self, alloc: Global, readonly: bool) -> Result<SessionId, EnterFault>
         ensures entered { IfOk result (λ id. (state : model.Room) → Stands state self.old
-            → (enter readonly state ≡ Some (after_enter readonly state)) × Stands (after_enter readonly state) self.new) }
-        ensures number { IfOk result (λ id. (state : model.Room) → Stands state self.old → id.number ≡ length state.sessions) }
+            → (enter readonly state ≡ Some (after_enter readonly state))
+            × Stands (after_enter readonly state) self.new) }
+        ensures number { IfOk result (λ id. (state : model.Room) → Stands state self.old
+            → id.number ≡ length state.sessions) }
         ensures there { IfOk result (λ id. IsIn id self.new.sessions) }
-        ensures full { result ≡ Err EnterFault.Full → (state : model.Room) → Stands state self.old → is_full state ≡ true }
+        ensures full { (state : model.Room) → Stands state self.old
+            → (result ≡ Err EnterFault.Full) ↔ (is_full state ≡ true) }
         ensures err { OnErr result ((state : model.Room) → Stands state self.old → Stands state self.new) }
 
         // Whoever was in the room still is, and the schema stays.
@@ -64,7 +67,8 @@ impl Room {
     /// entry. It takes no memory, and costs a logarithm of the records.
     pub fn leave(&mut self, session: SessionId)
         requires { IsIn session self.old.sessions }
-        ensures left { (state : model.Room) → Stands state self.old → Leaves (after_leave state session.number) self.new }
+        ensures left { (state : model.Room) → Stands state self.old
+            → Leaves (after_leave state session.number) self.new }
         ensures others { (other : SessionId) → other.number ≢ session.number
             → IsIn other self.old.sessions → IsIn other self.new.sessions }
         ensures schema { tree_of self.new ≡ tree_of self.old }
