@@ -1,5 +1,5 @@
 -- A diff that has what the records have under each of some ids: which ids these are is all that matters.
-use Rattle.std.proofs.Common.{◌≡◌, ℕ, nat_lt, pos, ℤ, Bool, true, false, ◌&&◌, ◌||◌, cond, not, List, [], ◌∷◌, length, map, filter, fold, Option, Some, None, is_some, refl, sym, ap, subst, ◌∙◌, arith, ◌<◌, ◌+◌}
+use Rattle.std.proofs.Common.{◌≡◌, ℕ, nat_lt, pos, ℤ, Bool, true, false, ◌&&◌, ◌||◌, cond, not, List, [], ◌∷◌, zero, suc, length, get_or, map, filter, fold, Contains, Option, Some, None, is_some, is_eq, refl, sym, ap, subst, ◌∙◌, arith, ◌<◌, ◌+◌}
 use Rattle.std.specs.List.{count_by}
 use Rattle.std.specs.Prelude.{IsPermutation}
 use Rattle.std.specs.Option.{option_map_or}
@@ -9,11 +9,12 @@ use Rattle.std.proofs.lemmas.List.{length-map}
 use Rattle.std.proofs.lemmas.List.Sums.{sum_by-cons}
 use Rattle.rooms_val.specs.Data.{Data, Pairs}
 use Rattle.rooms_val.specs.Maps.{AreRising, value_at, with_key, ties, keys_of}
-use Rattle.rooms_val.proofs.MapsLemmas.{same_pairs}
+use Rattle.rooms_val.proofs.MapsLemmas.{order_itself, by_tie, same_pairs}
 use Rattle.field_ops.specs.RecordOps.{RecordOpTree, put, remove, RecordOps}
-use Rattle.room_model.specs.Schemas.{Schemas, Plan, Member, is_own, records_with, pres}
+use Rattle.room_model.specs.Schemas.{Schemas, Plan, Member, presence_id, is_own, records_with, pres}
 use Rattle.room_model.specs.Histories.{History, records_of, last_clock, changed_after}
 use Rattle.room_model.specs.Messages.{state_op, changes_after, with_puts, others_of}
+use Rattle.room_model.proofs.ActingLemmas.{differ, or_right}
 use Rattle.room_model.proofs.LookUpLemmas.{has, at-filter, rising-filter, at-fold, rising-fold, at-over, rising-over, seen_or, has-filter, has-changed}
 use Rattle.room_model.proofs.BaseLemmas.{rising-records}
 use Rattle.room_messages.proofs.ListLemmas.{filter-both, filter-same}
@@ -63,6 +64,41 @@ has-keys : {V : Type 0} (es : List (List ℕ × V)) (q : List ℕ) → has q (ke
 has-keys [] q = refl
 has-keys (e ∷ es) q = elim (ties q e.0) as (λ b. b || has q (keys_of es) ≡ is_some (cond b (Some e.1) (value_at es q))) [ true ↦ refl | false ↦ has-keys es q ]
 
+-- an id that a list contains is one of it
+contained : (q : List ℕ) (ids : List (List ℕ)) (k : ℕ) → k < length ids → get_or ids k q ≡ q → has q ids ≡ true
+contained q [] k less is = absurd (omega arith)
+contained q (id ∷ ids) zero less is = ap (λ i. ties q i || has q ids) is ∙ ap (λ o. is_eq o || has q ids) (order_itself q)
+contained q (id ∷ ids) (suc k) less is = or_right (ties q id) (has q ids) (contained q ids k (omega arith) is)
+
+-- what holds of the ids of all sessions' presence holds of each of some
+each_presence : (test : List ℕ → Bool) → ((number : ℕ) → test (presence_id number) ≡ true) → (q : List ℕ) (numbers : List ℕ) → has q (map presence_id numbers) ≡ true → test q ≡ true
+each_presence test all q [] is = absurd (differ (sym is))
+each_presence test all q (n ∷ numbers) is =
+    by_tie (λ t. t || has q (map presence_id numbers) ≡ true → test q ≡ true) q (presence_id n) (λ same h. ap test same ∙ all n) (λ h. each_presence test all q numbers h) is
+
+-- to look for those that are there comes to the same as to go through all
+same_tests : (own some pres one : Bool) → (pres ≡ true → some ≡ true → one ≡ true) → (one ≡ true → pres ≡ true) → (own && some) && one ≡ (pres && own) && some
+same_tests true true true true f g = refl
+same_tests true true true false f g = absurd (differ (sym (f refl refl)))
+same_tests true true false true f g = absurd (differ (sym (g refl)))
+same_tests true true false false f g = refl
+same_tests true false true one f g = refl
+same_tests true false false one f g = refl
+same_tests false some true one f g = refl
+same_tests false some false one f g = refl
+
+-- the presence of others, by one test
+others_by : (schemas : Schemas) (session : ℕ) (m : Pairs) → records_with (λ id. schemas.is_presence id && not (is_own session id)) m ≡ others_of schemas session m
+others_by schemas session m =
+    filter-same (λ p. schemas.is_presence p.0 && not (is_own session p.0)) (λ p. not (is_own session p.0) && schemas.is_presence p.0) (λ p. swap (schemas.is_presence p.0) (not (is_own session p.0))) m
+    ∙ sym (filter-both (λ p. not (is_own session p.0)) (λ p. schemas.is_presence p.0) m)
+  where
+    swap : (a b : Bool) → a && b ≡ b && a
+    swap true true = refl
+    swap true false = refl
+    swap false true = refl
+    swap false false = refl
+
 module _ (schemas : Schemas) (plan : Plan) (history : History) where
   abbrev m : Pairs
   m = records_of history
@@ -86,27 +122,34 @@ module _ (schemas : Schemas) (plan : Plan) (history : History) where
   put_or true (Some d) o = refl
   put_or false r o = refl
 
-  -- the records under the ids of a map, put over a diff
-  pub states_put : (test : List ℕ → Bool) (diff : RecordOps) → AreRising diff → with_states diff (filter test (keys_of m)) ≡ with_puts schemas plan (records_with test m) diff
-  states_put test diff rising =
+  -- the records under some ids, put over a diff, where these are the ones that a test passes and that are there
+  states_found : (test : List ℕ → Bool) (ids : List (List ℕ)) → ((q : List ℕ) → has q ids ≡ test q && is_some (value_at m q)) → (diff : RecordOps) → AreRising diff
+      → with_states diff ids ≡ with_puts schemas plan (records_with test m) diff
+  states_found test ids are diff rising =
       let op = state_op schemas plan m in
       let as_put : Data → RecordOpTree = λ d. put (schemas.lower plan d) in
       let rises = rising-records history in
-      same_pairs _ _ (rising-fold op (filter test (keys_of m)) diff rising) (rising-over as_put (records_with test m) diff rising) (λ q.
-      at-fold op (filter test (keys_of m)) diff q
-      ∙ ap (λ b. cond b (Some (op q)) (value_at diff q)) (has-filter test (keys_of m) q ∙ ap (λ b. test q && b) (has-keys m q))
+      same_pairs _ _ (rising-fold op ids diff rising) (rising-over as_put (records_with test m) diff rising) (λ q.
+      at-fold op ids diff q
+      ∙ ap (λ b. cond b (Some (op q)) (value_at diff q)) (are q)
       ∙ put_or (test q) (value_at m q) (value_at diff q)
       ∙ ap (λ o. seen_or as_put o (value_at diff q)) (sym (at-filter test m q))
       ∙ sym (at-over as_put (records_with test m) diff q (rising-filter test m rises)))
 
--- the presence of others, by one test
-pub others_by : (schemas : Schemas) (session : ℕ) (m : Pairs) → records_with (λ id. schemas.is_presence id && not (is_own session id)) m ≡ others_of schemas session m
-others_by schemas session m =
-    filter-same (λ p. schemas.is_presence p.0 && not (is_own session p.0)) (λ p. not (is_own session p.0) && schemas.is_presence p.0) (λ p. swap (schemas.is_presence p.0) (not (is_own session p.0))) m
-    ∙ sym (filter-both (λ p. not (is_own session p.0)) (λ p. schemas.is_presence p.0) m)
-  where
-    swap : (a b : Bool) → a && b ≡ b && a
-    swap true true = refl
-    swap true false = refl
-    swap false true = refl
-    swap false false = refl
+  -- the records under the ids of a map, put over a diff
+  pub states_put : (test : List ℕ → Bool) (diff : RecordOps) → AreRising diff → with_states diff (filter test (keys_of m)) ≡ with_puts schemas plan (records_with test m) diff
+  states_put test diff rising = states_found test (filter test (keys_of m)) (λ q. has-filter test (keys_of m) q ∙ ap (λ b. test q && b) (has-keys m q)) diff rising
+
+  -- the presence of others, looked for under the ids of the sessions that are in the room
+  pub others_put : ((number : ℕ) → schemas.is_presence (presence_id number) ≡ true) → (session : ℕ) (numbers : List ℕ) (diff : RecordOps) → AreRising diff
+      → ((id : List ℕ) → schemas.is_presence id ≡ true → is_some (value_at m id) ≡ true → Contains (map presence_id numbers) id)
+      → with_states diff (filter (λ id. not (is_own session id) && is_some (value_at m id)) (map presence_id numbers)) ≡ with_puts schemas plan (others_of schemas session m) diff
+  others_put presences session numbers diff rising are =
+      let ids = map presence_id numbers in
+      let there : List ℕ → Bool = λ id. not (is_own session id) && is_some (value_at m id) in
+      states_found (λ id. schemas.is_presence id && not (is_own session id)) (filter there ids) (λ q.
+      has-filter there ids q
+      ∙ same_tests (not (is_own session q)) (is_some (value_at m q)) (schemas.is_presence q) (has q ids)
+      (λ pres some. let among = are q pres some in contained q ids among.0 among.1 among.2)
+      (each_presence schemas.is_presence presences q numbers)) diff rising
+      ∙ ap (λ others. with_puts schemas plan others diff) (others_by schemas session m)

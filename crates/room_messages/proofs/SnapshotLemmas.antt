@@ -1,5 +1,5 @@
 -- The parts of a snapshot and of a catch-up, by what a room keeps.
-use Rattle.std.proofs.Common.{◌≡◌, ℕ, ◌≤◌, ◌<◌, nat_lt, ℤ, pos, negsuc, ◌<ℤ◌, ◌≤ℤ◌, Bool, true, false, ◌||◌, ◌&&◌, not, cond, ◌⊎◌, inl, inr, List, [], filter, fold, length, Option, Some, None, option_map, refl, sym, ap, ◌∙◌, arith}
+use Rattle.std.proofs.Common.{◌≡◌, ℕ, ◌≤◌, ◌<◌, nat_lt, ℤ, pos, negsuc, ◌<ℤ◌, ◌≤ℤ◌, Bool, true, false, ◌||◌, ◌&&◌, not, cond, ◌⊎◌, inl, inr, List, [], map, filter, fold, length, Option, Some, None, is_some, option_map, refl, sym, ap, ◌∙◌, arith}
 use Rattle.std.proofs.lemmas.Bool.Decides.{nat_tests}
 use Rattle.std.proofs.lemmas.Int.{ints}
 use Rattle.rooms_val.specs.Data.{Pairs}
@@ -7,14 +7,16 @@ use Rattle.rooms_val.specs.Maps.{AreRising, value_at, with_key, keys_of}
 use Rattle.field_ops.specs.RecordOps.{RecordOps}
 use Rattle.schema_core.specs.Admits.{is_document}
 use Rattle.schema_core.specs.Tree.{SchemaTree}
-use Rattle.room_model.specs.Schemas.{Plan, is_own, records_with, doc}
+use Rattle.room_model.specs.Schemas.{Plan, presence_id, is_own, records_with}
 use Rattle.room_model.specs.Histories.{History, records_of, start_of}
 use Rattle.room_model.specs.Messages.{known_clock, changes_after, with_puts, others_of}
-use Rattle.room_schemas.specs.Decided.{decided, is_presence}
+use Rattle.room_schemas.specs.Decided.{decided}
+use Rattle.room_accept.specs.Suiting.{HasPresences}
 use Rattle.room_history.specs.Keeps.{Keeps}
 use Rattle.room_history.specs.declared.kept.Kept.{Kept}
+use Rattle.room_messages.specs.Present.{ArePresencesOf}
 use Rattle.room_messages.specs.Told.{state_of, IsFrom}
-use Rattle.room_messages.proofs.IdLemmas.{AreChanged, states_changed, states_put, others_by}
+use Rattle.room_messages.proofs.IdLemmas.{AreChanged, states_changed, states_put, others_put}
 
 -- a diff with what records have under each of some ids
 abbrev pub with_states_of : SchemaTree → Plan → Pairs → RecordOps → List (List ℕ) → RecordOps
@@ -36,13 +38,14 @@ module _ (first : ℕ) (history : History) (kept : Kept) (keeps : Keeps first hi
   all_states test before diff rising is =
       is ∙ ap (λ m. with_states_of tree plan m before (filter test (keys_of m))) kept_records ∙ states_put (decided tree) plan history test before rising
 
-  -- so the presence of others
-  pub other_states : (session : ℕ) (before diff : RecordOps) → AreRising before
-      → diff ≡ with_states_of tree plan kept.records.0 before (filter (λ id. is_presence tree id && not (is_own session id)) (keys_of kept.records.0))
+  -- so the presence of others, looked for under the ids of the sessions that are in the room
+  pub other_states : (session : ℕ) (numbers : List ℕ) (before diff : RecordOps) → HasPresences tree → AreRising before → ArePresencesOf tree numbers (records_of history)
+      → diff ≡ with_states_of tree plan kept.records.0 before (filter (λ id. not (is_own session id) && is_some (value_at kept.records.0 id)) (map presence_id numbers))
       → diff ≡ with_puts (decided tree) plan (others_of (decided tree) session (records_of history)) before
-  other_states session before diff rising is =
-      all_states (λ id. is_presence tree id && not (is_own session id)) before diff rising is
-      ∙ ap (λ others. with_puts (decided tree) plan others before) (others_by (decided tree) session (records_of history))
+  other_states session numbers before diff presences rising are is =
+      is
+      ∙ ap (λ m. with_states_of tree plan m before (filter (λ id. not (is_own session id) && is_some (value_at m id)) (map presence_id numbers))) kept_records
+      ∙ others_put (decided tree) plan history presences session numbers before rising are
 
 -- the clock that a client has reached, where the room can't tell
 pub not_known : (reached : ℤ) (start clock : ℕ) → (reached <ℤ pos start) ⊎ (pos clock <ℤ reached) → None ≡ option_map pos (known_clock reached start clock)

@@ -1,2 +1,3 @@
+pub mod Present
 pub mod Results
 pub mod Told

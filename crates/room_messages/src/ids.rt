@@ -1,17 +1,16 @@
 //! Which ids a session is told of.
-ghost use Rattle.std.specs.Prelude.{◌≡◌, ℕ, ◌+◌, ◌≤◌, pos, not, ◌&&◌, filter, length, map, IfOk, IsPermutation};
+ghost use Rattle.std.specs.Prelude.{◌≡◌, ℕ, ◌+◌, ◌≤◌, pos, not, ◌&&◌, filter, length, map, is_some};
+ghost use Rattle.std.specs.Prelude.{IfOk, IsPermutation};
 ghost use Rattle.std.specs.Str.{bytes_eq};
-ghost use Rattle.rooms_val.specs.Maps.{keys_of};
+ghost use Rattle.rooms_val.specs.Maps.{value_at};
 ghost use Rattle.schema_core.specs.Admits.{is_document};
 ghost use Rattle.schema_core.specs.SchemaOf.{schema_tree};
-ghost use Rattle.room_model.specs.Schemas.{is_own};
+ghost use Rattle.room_model.specs.Schemas.{is_own, presence_id};
 ghost use Rattle.room_model.specs.Histories.{History, start_of, changed_after};
-ghost use Rattle.room_schemas.specs.Decided.{is_presence};
 ghost use Rattle.room_history.specs.Keeps.{Keeps};
 
 use room_accept::presence_id;
 use room_history::RoomHistory;
-use room_schemas::is_presence;
 use rooms_val::{Mem, Steps, Text};
 use schema_core::Schema;
 use std::alloc::Global;
@@ -37,15 +36,32 @@ pub(crate) fn changed_ids<L: Ledger>(
     Ok(ids)
 }
 
-/// The ids of the presence of all sessions but one, in order.
-pub(crate) fn other_presences(alloc: Global, room: &RoomHistory, session: u64) -> Mem<Vec<Text>>
+/// The ids of the presence of some sessions, where there is one, but for that of one session. It
+/// looks each of them up, and walks over no other record.
+pub(crate) fn other_presences(
+    alloc: Global,
+    room: &RoomHistory,
+    session: u64,
+    present: &[u64],
+) -> Mem<Vec<Text>>
     ensures { IfOk result (λ ids. ids.items
-        ≡ filter (λ id. is_presence (schema_tree room.now.kept.schema) id && not (is_own session id))
-        (keys_of room.now.kept.records.0)) }
+        ≡ filter (λ id. not (is_own session id) && is_some (value_at room.now.kept.records.0 id))
+        (map presence_id present.now)) }
 {
     let own = presence_id(alloc, session)?;
-    let mut ids = room.ids(alloc)?;
-    keep_others(room.schema(), &own, &mut ids);
+    let mut ids = presence_ids(alloc, present)?;
+    keep_others(room, &own, &mut ids);
+    Ok(ids)
+}
+
+// The ids of the presence of some sessions.
+fn presence_ids(alloc: Global, present: &[u64]) -> Mem<Vec<Text>>
+    ensures { IfOk result (λ ids. ids.items ≡ map presence_id present.now) }
+{
+    let mut ids = Vec::new(alloc);
+    'sessions: for session in present {
+        ids.push(presence_id(alloc, *session)?)?;
+    }
     Ok(ids)
 }
 
@@ -63,10 +79,18 @@ pub(crate) fn drop_own(own: &Text, ids: &mut Vec<Text>)
     ids.retain(|id| id.as_str() != own.as_str());
 }
 
-// Leaves the ids of presence, but for one.
-fn keep_others(schema: &Schema, own: &Text, ids: &mut Vec<Text>)
+// Leaves the ids under which there is a record, but for one.
+fn keep_others(room: &RoomHistory, own: &Text, ids: &mut Vec<Text>)
     ensures { ids.new.items
-        ≡ filter (λ id. is_presence (schema_tree schema.now) id && not (bytes_eq id own.now)) ids.old.items }
+        ≡ filter (λ id. not (bytes_eq id own.now)
+        && is_some (value_at room.now.kept.records.0 id)) ids.old.items }
 {
-    ids.retain(|id| is_presence(schema, id.as_str()) && id.as_str() != own.as_str());
+    ids.retain(|id| id.as_str() != own.as_str() && has_record(room, id.as_str()));
+}
+
+// Whether there is a record of an id.
+fn has_record(room: &RoomHistory, id: &str) -> bool
+    ensures { result ≡ is_some (value_at room.now.kept.records.0 id.now) }
+{
+    room.record(id).is_some()
 }

@@ -14,5 +14,5 @@ mod states;
 mod told;
 pub mod updates_message;
 
-pub use snapshot_message::snapshot;
+pub use snapshot_message::{Request, snapshot};
 pub use updates_message::updates;

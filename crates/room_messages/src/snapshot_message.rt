@@ -9,6 +9,7 @@ ghost use Rattle.room_schemas.specs.Decided.{decided};
 ghost use Rattle.room_accept.specs.Plans.{plan_of};
 ghost use Rattle.room_accept.specs.Pushes.{member_of};
 ghost use Rattle.room_history.specs.Keeps.{Keeps};
+ghost use Rattle.room_messages.specs.Present.{ArePresencesOf};
 ghost use Rattle.room_messages.specs.Told.{decided_by, IsFrom};
 
 use crate::ids::{changed_ids, keep_documents, other_presences};
@@ -22,33 +23,50 @@ use std::alloc::Global;
 use std::sync::ledger::Ledger;
 use sync_msgs::{Hydration, ServerMessage};
 
-/// What a session is sent that asked under a text, and said which clock its client has reached: what
-/// changed in the document since, or all of it where the room can't tell, and the presence of others.
+/// What a session asked to be connected by.
+#[derive(Clone, Copy)]
+pub struct Request<'a> {
+    /// The text under which it is to be answered.
+    pub id: &'a Text,
+    /// The clock that its client says it has reached, -1 before the first connection.
+    pub reached: i64,
+}
+
+/// What a session is sent that asked to be connected: what changed in the document since the clock
+/// that its client has reached, or all of it if the room can't tell, and the presence of others.
+/// `present` are the numbers of the sessions that are in the room, among which is whoever has a
+/// presence.
 ///
-/// Where it tells what changed, it counts at most a step for each id whose last entry lies above the
-/// client's clock, and one more.
+/// It looks up the presence of each of those sessions, and walks over no other record if it tells
+/// what changed. Then it counts at most a step for each id whose last entry lies above the client's
+/// clock, and one more.
+///
+/// # Errors
+///
+/// Memory was refused.
 pub fn snapshot<L: Ledger>(
     alloc: Global,
     room: &RoomHistory,
     member: Member<'_>,
-    request: &Text,
-    reached: i64,
+    present: &[u64],
+    request: Request<'_>,
     steps: &mut Steps<L>,
 ) -> Mem<ServerMessage>
     ensures message { IfOk result (λ said. (first : ℕ) (history : History)
         → Keeps first history room.now.kept
+        → ArePresencesOf (schema_tree room.now.kept.schema) present.now (records_of history)
         → said ≡ snapshot (decided (schema_tree room.now.kept.schema)) (member_of member.entry)
-        request.now reached first history) }
+        request.entry.id.now request.entry.reached first history) }
     ensures ticks { IfOk result (λ said. (first : ℕ) (history : History) (clock : ℕ)
         → Keeps first history room.now.kept
-        → known_clock reached (start_of first history) (length history) ≡ Some clock
+        → known_clock request.entry.reached (start_of first history) (length history) ≡ Some clock
         → steps.new ≤ steps.old + (length (changed_after clock history) + 1)) }
 {
-    let known = known_clock(room, reached);
-    let diff = snapshot_diff(alloc, room, member, known, steps)?;
+    let known = known_clock(room, request.reached);
+    let diff = snapshot_diff(alloc, room, member, present, known, steps)?;
     Ok(ServerMessage::Connect {
         hydration_type: hydration(known),
-        connect_request_id: request.copy(alloc)?,
+        connect_request_id: request.id.copy(alloc)?,
         protocol_version: PROTOCOL,
         schema: room.schema().sequences().serialized(alloc)?,
         diff,
@@ -84,18 +102,22 @@ fn snapshot_diff<L: Ledger>(
     alloc: Global,
     room: &RoomHistory,
     member: Member<'_>,
+    present: &[u64],
     known: Option<i64>,
     steps: &mut Steps<L>,
 ) -> Mem<Diff>
     ensures diff { IfOk result (λ diff. (first : ℕ) (history : History) (clock : Option ℕ)
-        → Keeps first history room.now.kept → known ≡ option_map pos clock → IsFrom (start_of first history) clock
+        → Keeps first history room.now.kept
+        → ArePresencesOf (schema_tree room.now.kept.schema) present.now (records_of history)
+        → known ≡ option_map pos clock → IsFrom (start_of first history) clock
         → diff ≡ snapshot_diff (decided_by room.now.kept) (member_of member.entry) clock history) }
     ensures ticks { IfOk result (λ diff. (first : ℕ) (history : History) (clock : ℕ)
-        → Keeps first history room.now.kept → known ≡ Some (pos clock) → start_of first history ≤ clock
+        → Keeps first history room.now.kept → known ≡ Some (pos clock)
+        → start_of first history ≤ clock
         → steps.new ≤ steps.old + (length (changed_after clock history) + 1)) }
 {
     let mut diff = document_diff(alloc, room, member.plan, known, steps)?;
-    put_others(alloc, room, member, &mut diff)?;
+    put_others(alloc, room, member, present, &mut diff)?;
     Ok(diff)
 }
 
@@ -108,10 +130,12 @@ fn document_diff<L: Ledger>(
     steps: &mut Steps<L>,
 ) -> Mem<Diff>
     ensures diff { IfOk result (λ diff. (first : ℕ) (history : History) (clock : Option ℕ)
-        → Keeps first history room.now.kept → known ≡ option_map pos clock → IsFrom (start_of first history) clock
+        → Keeps first history room.now.kept → known ≡ option_map pos clock
+        → IsFrom (start_of first history) clock
         → diff ≡ document_diff (decided_by room.now.kept) (plan_of plan.now) clock history) }
     ensures ticks { IfOk result (λ diff. (first : ℕ) (history : History) (clock : ℕ)
-        → Keeps first history room.now.kept → known ≡ Some (pos clock) → start_of first history ≤ clock
+        → Keeps first history room.now.kept → known ≡ Some (pos clock)
+        → start_of first history ≤ clock
         → steps.new ≤ steps.old + (length (changed_after clock history) + 1)) }
 {
     match known {
@@ -157,13 +181,22 @@ fn all_documents(alloc: Global, room: &RoomHistory, plan: &SessionPlan) -> Mem<D
 }
 
 // Puts the presence of all sessions but one into a diff.
-fn put_others(alloc: Global, room: &RoomHistory, member: Member<'_>, diff: &mut Diff) -> Mem<()>
+fn put_others(
+    alloc: Global,
+    room: &RoomHistory,
+    member: Member<'_>,
+    present: &[u64],
+    diff: &mut Diff,
+) -> Mem<()>
     ensures { OnOk result ((first : ℕ) (history : History) → Keeps first history room.now.kept
+        → ArePresencesOf (schema_tree room.now.kept.schema) present.now (records_of history)
         → diff.new ≡ with_puts (decided_by room.now.kept) (plan_of member.entry.plan.now)
         (others_of (decided_by room.now.kept) member.entry.session (records_of history)) diff.old) }
 {
-    // That the ids of a diff rise is told by their number.
+    // That the ids of a diff rise is told by their number, and that those of presences are presences
+    // by the schema.
     let _ = diff.len();
-    let ids = other_presences(alloc, room, member.session)?;
+    let _ = room.schema();
+    let ids = other_presences(alloc, room, member.session, present)?;
     put_states(alloc, room, member.plan, diff, ids)
 }

@@ -168,6 +168,11 @@ presence_apart schemas lawful session =
       | false ↦ λ is. refl
     ] refl
 
+-- a diff that is fit names ids of the document alone
+pub fit_documents : (schemas : Schemas) (plan : Plan) (diff : RecordOps) → is_fit schemas plan diff ≡ true → list_all (λ c. schemas.is_document c.0) diff ≡ true
+fit_documents schemas plan [] fit = refl
+fit_documents schemas plan (c ∷ diff) fit = both _ _ (left _ _ (left _ _ fit)) (fit_documents schemas plan diff (right _ _ fit))
+
 module _ (schemas : Schemas) (lawful : AreLawful schemas) (member : Member) (m : Pairs) where
   -- what is accepted of a presence acts
   presence_acts : (c : RecordOpTree) (d : RecordOpTree) → presence_part schemas member m c ≡ Some d → acts_on schemas.admits (presence_id member.session) d (value_at m (presence_id member.session)) ≡ true
@@ -208,10 +213,6 @@ module _ (schemas : Schemas) (lawful : AreLawful schemas) (member : Member) (m :
     action = λ a is. let same : author ≡ a = cc in subst (λ b. IsActionOf (document_ops schemas (with_key part (presence_id member.session) d)) b.action) same (subst (λ p. IsActionOf p author.action) (sym (filter-with_key schemas.is_document part (presence_id member.session) d documents outside)) says);
   }
 
-  pub fit_documents : (plan : Plan) (diff : RecordOps) → is_fit schemas plan diff ≡ true → list_all (λ c. schemas.is_document c.0) diff ≡ true
-  fit_documents plan [] fit = refl
-  fit_documents plan (c ∷ diff) fit = both _ _ (left _ _ (left _ _ fit)) (fit_documents plan diff (right _ _ fit))
-
   each_same : (diff : RecordOps) → Each (λ c. value_at m c.0 ≡ value_at m c.0) diff
   each_same [] = tt
   each_same (c ∷ diff) = (refl, each_same diff)
@@ -231,7 +232,7 @@ module _ (schemas : Schemas) (lawful : AreLawful schemas) (member : Member) (m :
             let part = accept_ops schemas member.plan m push.diff in
             added_acts (author part) refl part o (rising-accepted schemas member.plan m push.diff rising)
             (accepted_each schemas member.plan m m push.diff rising (each_same push.diff))
-            (all-accepted schemas member.plan schemas.is_document m push.diff (fit_documents member.plan push.diff fit))
+            (all-accepted schemas member.plan schemas.is_document m push.diff (fit_documents schemas member.plan push.diff fit))
             (action_says member.plan push.diff part) (presence_of push.presence)
       ] (left _ _ taken)
 

@@ -113,7 +113,7 @@ module _ (schemas : Schemas) where
         let documents : list_all (λ c. schemas.is_document c.0) part ≡ true =
         elim member.readonly as (λ b. (b || is_fit schemas member.plan push.diff) ≡ true → list_all (λ c. schemas.is_document c.0) (cond b [] (accept_ops schemas member.plan m push.diff)) ≡ true) [
           | true ↦ λ fit. refl
-          | false ↦ λ fit. all-accepted schemas member.plan schemas.is_document m push.diff (fit_documents schemas lawful member m member.plan push.diff fit)
+          | false ↦ λ fit. all-accepted schemas member.plan schemas.is_document m push.diff (fit_documents schemas member.plan push.diff fit)
         ] (left _ _ taken) in
         let nothing_of : document_part schemas member m [] ≡ [] = elim member.readonly as (λ b. cond {A = RecordOps} b [] [] ≡ []) [ true ↦ refl | false ↦ refl ] in
         document_added member.session part (option_and_then (presence_part schemas member m) push.presence) documents
@@ -137,7 +137,7 @@ module _ (schemas : Schemas) where
               (subst (λ ops. IsCommitOf plan ops (action_of plan push.diff [])) (sym (document_added n [] o refl)) (action_commits plan push.diff [] (λ none. refl)))
           | false ↦ λ fit is.
               let same : made part ≡ author = cc in
-              let documents = all-accepted schemas plan schemas.is_document m push.diff (fit_documents schemas lawful member m plan push.diff fit) in
+              let documents = all-accepted schemas plan schemas.is_document m push.diff (fit_documents schemas plan push.diff fit) in
               subst (λ a. IsCommitOf plan (document_ops schemas (added part (presence_id n) o)) a.action) same
               (subst (λ ops. IsCommitOf plan ops (action_of plan push.diff part)) (sym (document_added n part o documents))
               (action_commits plan push.diff part (λ none. ap (λ diff. accept_ops schemas plan m diff) none)))

@@ -35,7 +35,7 @@ found_set (x ∷ xs) zero (suc k) s t u at same found = (u, found, refl)
 found_set (x ∷ xs) (suc n) zero s t u at same found = (u, found, refl)
 found_set (x ∷ xs) (suc n) (suc k) s t u at same found = found_set xs n k s t u at same found
 
-found_added : (xs : List Session) (k : ℕ) (y u : Session) → slice_get xs k ≡ Some u → slice_get (xs ++ y ∷ []) k ≡ Some u
+pub found_added : (xs : List Session) (k : ℕ) (y u : Session) → slice_get xs k ≡ Some u → slice_get (xs ++ y ∷ []) k ≡ Some u
 found_added [] k y u found = absurd (cc)
 found_added (x ∷ xs) zero y u found = found
 found_added (x ∷ xs) (suc k) y u found = found_added xs k y u found
@@ -52,17 +52,29 @@ module _ (schemas : Schemas) where
     carried old next on history all.1,
   )
 
+  names_mixed : (n : ℕ) (part : RecordOps) → list_all (λ c. schemas.is_document c.0) part ≡ true → list_all (λ c. schemas.is_document c.0 || is_own n c.0) part ≡ true
+  names_mixed n part all = all-imp (λ c. schemas.is_document c.0) (λ c. schemas.is_document c.0 || is_own n c.0) (λ c is. or_left _ _ is) part all
+
+  names_added : (n : ℕ) (part : RecordOps) (o : Option RecordOpTree) → list_all (λ c. schemas.is_document c.0) part ≡ true
+      → list_all (λ c. schemas.is_document c.0 || is_own n c.0) (added part (presence_id n) o) ≡ true
+  names_added n part None all = names_mixed n part all
+  names_added n part (Some d) all =
+      all-with_key (λ c. schemas.is_document c.0 || is_own n c.0) part (presence_id n) d (names_mixed n part all)
+      (or_right _ _ (own_itself n))
+
+  -- the entry of a push names ids of the document and the presence of its session alone
+  pub push_names : (room : Room) (n : ℕ) (s : Session) (plan : Plan) (push : Push) → is_taken schemas (member_of n s plan) push ≡ true
+      → list_all (λ c. schemas.is_document c.0 || is_own n c.0) (pushed_by schemas room n s plan push).diff ≡ true
+  push_names room n s plan push taken =
+      let m = records_of room.history in
+      let part = accept_ops schemas plan m push.diff in
+      let o = option_and_then (presence_part schemas (member_of n s plan) m) push.presence in
+      elim s.readonly as (λ b. (b || is_fit schemas plan push.diff) ≡ true → list_all (λ c. schemas.is_document c.0 || is_own n c.0) (added (cond b [] part) (presence_id n) o) ≡ true) [
+        | true ↦ λ fit. names_added n [] o refl
+        | false ↦ λ fit. names_added n part o (all-accepted schemas plan schemas.is_document m push.diff (fit_documents schemas plan push.diff fit))
+      ] (left _ _ taken)
+
   module _ (lawful : AreLawful schemas) where
-    names_mixed : (n : ℕ) (part : RecordOps) → list_all (λ c. schemas.is_document c.0) part ≡ true → list_all (λ c. schemas.is_document c.0 || is_own n c.0) part ≡ true
-    names_mixed n part all = all-imp (λ c. schemas.is_document c.0) (λ c. schemas.is_document c.0 || is_own n c.0) (λ c is. or_left _ _ is) part all
-
-    names_added : (n : ℕ) (part : RecordOps) (o : Option RecordOpTree) → list_all (λ c. schemas.is_document c.0) part ≡ true
-        → list_all (λ c. schemas.is_document c.0 || is_own n c.0) (added part (presence_id n) o) ≡ true
-    names_added n part None all = names_mixed n part all
-    names_added n part (Some d) all =
-        all-with_key (λ c. schemas.is_document c.0 || is_own n c.0) part (presence_id n) d (names_mixed n part all)
-        (or_right _ _ (own_itself n))
-
     none_added : (n : ℕ) (o : Option RecordOpTree) → list_all (λ c. not (schemas.is_document c.0)) (added [] (presence_id n) o) ≡ true
     none_added n None = refl
     none_added n (Some d) = both _ _ (ap not (presence_apart schemas lawful n)) refl
@@ -70,17 +82,13 @@ module _ (schemas : Schemas) where
     pushed_names : (room : Room) (n : ℕ) (s : Session) (plan : Plan) (push : Push) → slice_get room.sessions n ≡ Some s → is_taken schemas (member_of n s plan) push ≡ true
         → IsNamedBy schemas room.sessions n (pushed_by schemas room n s plan push).diff
     pushed_names room n s plan push at taken =
-        let member = member_of n s plan in
         let m = records_of room.history in
         let part = accept_ops schemas plan m push.diff in
-        let o = option_and_then (presence_part schemas member m) push.presence in
+        let o = option_and_then (presence_part schemas (member_of n s plan) m) push.presence in
         record {
           session = s;
           entered = at;
-          names = elim s.readonly as (λ b. (b || is_fit schemas plan push.diff) ≡ true → list_all (λ c. schemas.is_document c.0 || is_own n c.0) (added (cond b [] part) (presence_id n) o) ≡ true) [
-            | true ↦ λ fit. names_added n [] o refl
-            | false ↦ λ fit. names_added n part o (all-accepted schemas plan schemas.is_document m push.diff (fit_documents schemas lawful member m plan push.diff fit))
-          ] (left _ _ taken);
+          names = push_names room n s plan push taken;
           readonly = λ ro. subst (λ b. list_all (λ c. not (schemas.is_document c.0)) (added (cond b [] part) (presence_id n) o) ≡ true) (sym ro) (none_added n o);
         }
 

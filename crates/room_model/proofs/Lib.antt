@@ -6,6 +6,7 @@ pub mod ClockLemmas
 pub mod OwnLemmas
 pub mod EntryLemmas
 pub mod ClosingLemmas
+pub mod OwnerLemmas
 pub mod CommitLemmas
 pub mod LookUpLemmas
 pub mod BaseLemmas

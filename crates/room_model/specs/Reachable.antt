@@ -1,7 +1,8 @@
--- Which rooms calls make, and where the sent clocks of their sessions lie.
-use Rattle.std.specs.Prelude.{◌≡◌, ℕ, ◌-◌, ◌≤◌, min, slice_get, length, Bool, ◌||◌, Some}
-use Rattle.rooms_val.specs.Maps.{AreRising}
-use Rattle.room_model.specs.Schemas.{Schemas}
+-- Which rooms calls make, where the sent clocks of their sessions lie, and whose presences are in them.
+use Rattle.std.specs.Prelude.{◌≡◌, ℕ, ◌-◌, ◌≤◌, min, List, slice_get, length, Bool, true, false, ◌||◌, Some, is_some}
+use Rattle.rooms_val.specs.Maps.{AreRising, value_at}
+use Rattle.room_model.specs.Schemas.{Schemas, presence_id}
+use Rattle.room_model.specs.Histories.{records_of}
 use Rattle.room_model.specs.Accepting.{pushed_diff}
 use Rattle.room_model.specs.Rooms.{Phase, live, Session, Room, new_room, start, is_ended, has_left, enter, after_message, Replied, after_leave, next_for, Given, after_drain}
 use Rattle.room_model.specs.declared.limits.TheConstants.{MOST_TOLD}
@@ -39,3 +40,17 @@ abbrev pub AreSentNear : Room → Type 0
 AreSentNear room =
     (number : ℕ) (session : Session) → slice_get room.sessions number ≡ Some session
     → IsSentNear (start room) (length room.history) session.phase
+
+-- an id is that of the presence of a session, which is in the room and isn't ended
+pub record HasOwner (id : List ℕ) (sessions : List Session) : Type 0 where
+  pub number : ℕ
+  pub session : Session
+  pub at : slice_get sessions number ≡ Some session
+  pub unended : is_over session.phase ≡ false
+  pub own : id ≡ presence_id number
+
+-- each id of a room's records that is no document's is such an id
+abbrev pub ArePresencesOwned : Schemas → Room → Type 0
+ArePresencesOwned schemas room =
+    (id : List ℕ) → schemas.is_document id ≡ false → is_some (value_at (records_of room.history) id) ≡ true
+    → HasOwner id room.sessions

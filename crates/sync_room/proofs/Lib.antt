@@ -9,3 +9,4 @@ pub mod SendLemmas
 pub mod PushLemmas
 pub mod ChosenLemmas
 pub mod SentLemmas
+pub mod PresentLemmas

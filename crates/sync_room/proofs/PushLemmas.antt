@@ -32,7 +32,7 @@ use Rattle.sync_room.specs.declared.session.Phase.{Phase}
 use Rattle.sync_room.specs.declared.session.Phase.TheVariants.{New, Asked, Live, Ended}
 use Rattle.sync_room.specs.declared.session.Session.{Session}
 use Rattle.sync_room.proofs.HandleLemmas.{asks_rightly, asked_kept, reserved}
-use Rattle.sync_room.proofs.RoomLemmas.{changes, replied}
+use Rattle.sync_room.proofs.RoomLemmas.{Decides, changes, replied}
 use Rattle.sync_room.proofs.TableLemmas.{noted}
 
 -- a new session asks
@@ -109,13 +109,13 @@ not_ended (Live sent plan) h = refl
 not_ended (Ended reason told) h = absurd (h reason told refl)
 
 -- the reply to its message
-pub handles : (schemas : Schemas) (state : model.Room) (room after : Room) (key number : ℕ) (s : Session) → Stands state room → get room.sessions.present key ≡ Some s
+pub handles : (schemas : Schemas) (state : model.Room) (room after : Room) → Decides schemas room after → (key number : ℕ) (s : Session) → Stands state room → get room.sessions.present key ≡ Some s
     → s.number ≡ number → is_over (phase_of s.phase) ≡ false → (said read : ClientMessage) (reply : Handled) → read ≡ said
     → Follows (model.after_unended schemas s.number (session_of s) state said) reply after → Replies (model.after_message schemas state number read) reply after
-handles schemas state room after key number s h at is unended said read reply same follows =
+handles schemas state room after decides key number s h at is unended said read reply same follows =
     subst (λ n. Replies (model.after_message schemas state n read) reply after) is
     (subst (λ m. Replies (model.after_message schemas state s.number m) reply after) (sym same)
-    (replied schemas state room after key s h at said reply unended follows))
+    (replied schemas state room after decides key s h at said reply unended follows))
 
 -- what holds after an error
 pub on_err_map : {A E : Type 0} (r : Result A E) (P Q : Type 0) → OnErr r P → (P → Q) → OnErr r Q

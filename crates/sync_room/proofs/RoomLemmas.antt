@@ -7,9 +7,10 @@ use Rattle.schema_core.specs.Tree.{SchemaTree}
 use Rattle.room_model.specs.Histories.{History, records_of}
 use Rattle.room_model.specs.Schemas.{Schemas, presence_id}
 use Rattle.room_model.specs.Rooms as model
-use Rattle.room_model.specs.Reachable.{is_over, AreSentNear}
+use Rattle.room_model.specs.Reachable.{is_over, AreSentNear, ArePresencesOwned}
 use Rattle.room_model.proofs.CallLemmas.{Step, enters, message_step, drain_step, leave_step}
 use Rattle.room_model.proofs.ClockLemmas.{step_near, new_near}
+use Rattle.room_model.proofs.OwnerLemmas.{step_owned}
 use Rattle.room_model.specs.declared.handled.Handled.{Handled}
 use Rattle.room_model.specs.declared.handled.Handled.TheVariants as handled
 use Rattle.room_schemas.specs.Decided.{decided}
@@ -124,7 +125,19 @@ changes state room after key s t h at same kept is = record {
   says = subst (λ r. HasOwnActions (decided (schema_tree r.kept.schema)) state.history) (sym is.history) h.says;
 }
 
-module _ (schemas : Schemas) (state : model.Room) (room after : Room) (key : ℕ) (s : Session) (h : Stands state room) (at : get room.sessions.present key ≡ Some s) where
+-- what the schema of a room decides, before a call and after it
+pub record Decides (schemas : Schemas) (room after : Room) : Type 0 where
+  pub before : decided (tree_of room) ≡ schemas
+  pub now : decided (tree_of after) ≡ schemas
+
+-- whose presences are in it then
+owned_still : (schemas : Schemas) (o : Option (ℕ × ClientMessage)) (state next : model.Room) (room after : Room) → Decides schemas room after → Step schemas o state next → Stands state room
+    → ArePresencesOwned (decided (tree_of after)) next
+owned_still schemas o state next room after decides step h =
+    subst (λ s. ArePresencesOwned s next) (sym decides.now) (step_owned schemas o state next step (subst (λ s. ArePresencesOwned s state) decides.before h.presences))
+
+module _ (schemas : Schemas) (state : model.Room) (room after : Room) (decides : Decides schemas room after)
+    (key : ℕ) (s : Session) (h : Stands state room) (at : get room.sessions.present key ≡ Some s) where
   -- a message of a session that isn't ended
   unended_in : (said : ClientMessage) (phase : Phase) → is_over (phase_of phase) ≡ false
       → model.after_message_in schemas s.number (session_of s) state said (phase_of phase) ≡ model.after_unended schemas s.number (session_of s) state said
@@ -132,6 +145,14 @@ module _ (schemas : Schemas) (state : model.Room) (room after : Room) (key : ℕ
   unended_in said (Asked request reached plan) is = refl
   unended_in said (Live sent plan) is = refl
   unended_in said (Ended reason told) is = absurd (cc)
+
+  -- a room stands for what a step makes, once it agrees with that
+  stepped : (o : Option (ℕ × ClientMessage)) (next : model.Room) → Step schemas o state next → Agrees next after → Stands next after
+  stepped o next step agrees = record {
+    agrees = agrees;
+    near = step_near schemas o state next step h.near;
+    presences = owned_still schemas o state next room after decides step h;
+  }
 
   message_there : (said : ClientMessage) → model.after_message schemas state s.number said ≡ Some (model.after_message_in schemas s.number (session_of s) state said (phase_of s.phase))
   message_there said = ap (option_map (λ session. model.after_message_in schemas s.number session state said session.phase)) (session_there state room key s h.agrees at)
@@ -142,7 +163,7 @@ module _ (schemas : Schemas) (state : model.Room) (room after : Room) (key : ℕ
   replied said reply is follows =
       let it = message_there said ∙ ap Some (unended_in said s.phase is) in
       subst (λ o. Replies o reply after) (sym it)
-      (follows.reply, record { agrees = follows.room; near = step_near schemas _ state _ (message_step schemas state s.number said _ it) h.near })
+      (follows.reply, stepped _ _ (message_step schemas state s.number said _ it) follows.room)
 
   -- a message of one that is ended
   pub replied_ended : (said : ClientMessage) (reason : EndReason) (told : Bool) → s.phase ≡ Ended reason told → Stands state after
@@ -164,17 +185,22 @@ module _ (schemas : Schemas) (state : model.Room) (room after : Room) (key : ℕ
   given_out given out is same agrees =
       let it = next_there ∙ is in
       subst (λ o. Drains state s.number o (Some out) after) (sym it)
-      (ap Some same, record { agrees = agrees; near = step_near schemas _ state _ (drain_step schemas state s.number given it) h.near })
+      (ap Some same, stepped _ _ (drain_step schemas state s.number given it) agrees)
 
 -- a room that a session entered, or left
 pub entered_near : (tree : SchemaTree) (state : model.Room) (readonly : Bool) → AreSentNear state → AreSentNear (model.after_enter readonly state)
 entered_near tree state readonly h = step_near (decided tree) None state _ (enters readonly refl refl) h
 
-pub left_there : (tree : SchemaTree) (state : model.Room) (room after : Room) (key : ℕ) (s : Session) → Stands state room → get room.sessions.present key ≡ Some s
+pub entered_owned : (tree : SchemaTree) (state : model.Room) (readonly : Bool) → ArePresencesOwned (decided tree) state → ArePresencesOwned (decided tree) (model.after_enter readonly state)
+entered_owned tree state readonly h = step_owned (decided tree) None state _ (enters readonly refl refl) h
+
+pub left_there : (state : model.Room) (room after : Room) (key : ℕ) (s : Session) → Stands state room → get room.sessions.present key ≡ Some s → tree_of after ≡ tree_of room
     → Agrees (model.leave s.number (session_of s) state) after → Leaves (model.after_leave state s.number) after
-left_there tree state room after key s h at agrees =
+left_there state room after key s h at same agrees =
+    let schemas = decided (tree_of room) in
     let it = ap (option_map (λ session. model.leave s.number session state)) (session_there state room key s h.agrees at) in
-    subst (λ o. Leaves o after) (sym it) (record { agrees = agrees; near = step_near (decided tree) None state _ (leave_step (decided tree) state s.number _ it) h.near })
+    subst (λ o. Leaves o after) (sym it)
+    (stepped schemas state room after (record { before = refl; now = ap decided same }) key s h at None _ (leave_step schemas state s.number _ it) agrees)
 
 -- a session is refused, and those that have become too slow by that are ended
 pub refuses : (state : model.Room) (number : ℕ) (session : model.Session) (reason : EndReason) (after : Room) (b : Bool) → b ≡ model.is_present number state
@@ -217,21 +243,21 @@ module _ (state : model.Room) (room after : Room) (key : ℕ) (s : Session) (h :
       let own = kept.unended unended in
       (unended, let same : removal ≡ own.0 = let has = own.1 in cc in ap (λ r. r.session) same ∙ own.2)
 
-  pub leaves_ended : (tree : SchemaTree) → s.removal ≡ None → after.last ≡ room.last → after.history.kept ≡ room.history.kept
+  pub leaves_ended : s.removal ≡ None → after.last ≡ room.last → after.history.kept ≡ room.history.kept
       → Updates room.sessions.present after.sessions.present key None → slab_len after.sessions.present + 1 ≡ slab_len room.sessions.present
       → after.sessions.entered ≡ room.sessions.entered → Leaves (model.after_leave state s.number) after
-  leaves_ended tree none last same updates fewer entered =
+  leaves_ended none last same updates fewer entered =
       let ended = over_ended s.phase (removal_gone none) in
       let gone : model.Session = record (session_of s) { phase = model.gone } in
-      left_there tree state room after key s h at
+      left_there state room after key s h at (ap (λ kept. schema_tree kept.schema) same)
       (subst (λ b. Agrees (cond b (model.with_session s.number gone state) (model.after_close s.number (session_of s) model.gone state)) after) (sym ended)
       (left_ended state room after key s h.agrees at last same updates fewer entered))
 
-  pub leaves_open : (tree : SchemaTree) (b : Bool) → is_over (phase_of s.phase) ≡ false → b ≡ model.is_present s.number state
+  pub leaves_open : tree_of after ≡ tree_of room → (b : Bool) → is_over (phase_of s.phase) ≡ false → b ≡ model.is_present s.number state
       → Agrees (after_end b (model.close s.number (session_of s) model.gone state)) after → Leaves (model.after_leave state s.number) after
-  leaves_open tree b unended present agrees =
+  leaves_open same b unended present agrees =
       let gone : model.Session = record (session_of s) { phase = model.gone } in
-      left_there tree state room after key s h at
+      left_there state room after key s h at same
       (subst (λ e. Agrees (cond e (model.with_session s.number gone state) (model.after_close s.number (session_of s) model.gone state)) after) (sym (open_unended s.phase unended))
       (subst (λ b. Agrees (after_end b (model.close s.number (session_of s) model.gone state)) after) present agrees))
 
@@ -258,7 +284,7 @@ pub leaves_over : (state : model.Room) (room after : Room) (key number : ℕ) (s
     → Updates room.sessions.present after.sessions.present key None → slab_len after.sessions.present + 1 ≡ slab_len room.sessions.present
     → after.sessions.entered ≡ room.sessions.entered → Leaves (model.after_leave state number) after
 leaves_over state room after key number s h at is none last same updates fewer entered =
-    subst (λ n. Leaves (model.after_leave state n) after) is (leaves_ended state room after key s h at (tree_of room) none last same updates fewer entered)
+    subst (λ n. Leaves (model.after_leave state n) after) is (leaves_ended state room after key s h at none last same updates fewer entered)
 
 -- one leaves that wasn't, and had no presence; or had one, which may end others
 module _ (state : model.Room) (room between : Room) (key number : ℕ) (s : Session) (h : Stands state room) (at : get room.sessions.present key ≡ Some s) (is : s.number ≡ number)
@@ -270,10 +296,10 @@ module _ (state : model.Room) (room between : Room) (key number : ℕ) (s : Sess
   leaves_quietly none =
       let left = leaving state room between key s h at removal some b was last schema keeps updates fewer entered in
       subst (λ n. Leaves (model.after_leave state n) between) is
-      (leaves_open state room between key s h at (tree_of room) false left.0 (sym none ∙ left.1) left.2)
+      (leaves_open state room between key s h at schema false left.0 (sym none ∙ left.1) left.2)
 
-  pub leaves_ending : (after : Room) → b ≡ true → ((r : model.Room) → Agrees r between → Agrees (model.end_slow r) after) → Leaves (model.after_leave state number) after
-  leaves_ending after one ends =
+  pub leaves_ending : (after : Room) → tree_of after ≡ tree_of between → b ≡ true → ((r : model.Room) → Agrees r between → Agrees (model.end_slow r) after) → Leaves (model.after_leave state number) after
+  leaves_ending after same one ends =
       let left = leaving state room between key s h at removal some b was last schema keeps updates fewer entered in
       subst (λ n. Leaves (model.after_leave state n) after) is
-      (leaves_open state room after key s h at (tree_of room) true left.0 (sym one ∙ left.1) (ends _ left.2))
+      (leaves_open state room after key s h at (same ∙ schema) true left.0 (sym one ∙ left.1) (ends _ left.2))

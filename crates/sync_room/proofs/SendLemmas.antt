@@ -24,7 +24,7 @@ use Rattle.sync_room.specs.declared.session.Phase.{Phase}
 use Rattle.sync_room.specs.declared.session.Phase.TheVariants.{New, Asked, Live, Ended}
 use Rattle.sync_room.specs.declared.session.Session.{Session}
 use Rattle.sync_room.proofs.HandleLemmas.{pings_kept}
-use Rattle.sync_room.proofs.RoomLemmas.{changes, given_nothing, given_out}
+use Rattle.sync_room.proofs.RoomLemmas.{Decides, changes, given_nothing, given_out}
 
 -- nothing lies above the clock of a history
 above_all : (history : History) → above (length history) history ≡ []
@@ -95,7 +95,8 @@ unended_message (Asked request said plan) n is = refl
 unended_message (Live sent plan) n is = refl
 unended_message (Ended reason told) n is = absurd (cc)
 
-module _ (schemas : Schemas) (state : model.Room) (room after : Room) (key : ℕ) (s : Session) (h : Stands state room) (at : get room.sessions.present key ≡ Some s) where
+module _ (schemas : Schemas) (state : model.Room) (room after : Room) (decides : Decides schemas room after)
+    (key : ℕ) (s : Session) (h : Stands state room) (at : get room.sessions.present key ≡ Some s) where
   abbrev ponged : model.Given
   ponged = record { out = out.Message reply.Pong; notice = model.pong; after = record (session_of s) { pings = s.pings - 1 } }
 
@@ -113,20 +114,20 @@ module _ (schemas : Schemas) (state : model.Room) (room after : Room) (key : ℕ
   -- a pong
   pub pongs : IsNext s Pong → IsChanged key (record s { pings = s.pings - 1 }) room after → Drains state s.number (model.next_for schemas state s.number) (Some (out.Message reply.Pong)) after
   pongs is changed =
-      given_out schemas state room after key s h at ponged (out.Message reply.Pong) (pong_next s.phase is) refl
+      given_out schemas state room after decides key s h at ponged (out.Message reply.Pong) (pong_next s.phase is) refl
       (changes state room after key s (record s { pings = s.pings - 1 }) h.agrees at refl (pings_kept state.history s (s.pings - 1) (h.agrees.sessions.kept key s at)) changed)
 
   -- an end, or nothing after it
   pub ends_told : (reason : EndReason) → s.phase ≡ Ended reason true → Stands state after → Drains state s.number (model.next_for schemas state s.number) None after
   ends_told reason is stands =
-      given_nothing schemas state room after key s h at (ap (λ phase. model.next_in schemas state s.number (session_of s) (phase_of phase)) is) stands
+      given_nothing schemas state room after decides key s h at (ap (λ phase. model.next_in schemas state s.number (session_of s) (phase_of phase)) is) stands
 
   pub ends_untold : (reason : EndReason) → s.phase ≡ Ended reason false → IsChanged key (record s { phase = Ended reason true }) room after
       → Drains state s.number (model.next_for schemas state s.number) (Some (out.End reason)) after
   ends_untold reason is changed =
       let over : is_over (phase_of s.phase) ≡ true = ap (λ phase. is_over (phase_of phase)) is in
       let kept = h.agrees.sessions.kept key s at in
-      given_out schemas state room after key s h at
+      given_out schemas state room after decides key s h at
       (record { out = out.End reason; notice = model.end reason; after = record (session_of s) { phase = model.ended reason true } })
       (out.End reason) (ap (λ phase. model.next_in schemas state s.number (session_of s) (phase_of phase)) is) refl
       (changes state room after key s (record s { phase = Ended reason true }) h.agrees at refl
@@ -150,13 +151,13 @@ module _ (schemas : Schemas) (state : model.Room) (room after : Room) (key : ℕ
       let nothing : model.next_in schemas state s.number (session_of s) (phase_of s.phase) ≡ None =
       ap (λ phase. model.next_in schemas state s.number (session_of s) (phase_of phase)) is ∙ ap (λ b. cond b (Some ponged) None) (no_ping s.pings (sym next)) in
       subst (λ o. Drains state s.number (model.next_for schemas state s.number) o after) (sym sent.0)
-      (given_nothing schemas state room after key s h at nothing (same_stands sent.1))
+      (given_nothing schemas state room after decides key s h at nothing (same_stands sent.1))
   sends_in (Asked request said plan) is next given sent =
       let unended : is_over (phase_of s.phase) ≡ false = ap (λ phase. is_over (phase_of phase)) is in
       let message = out.Message (snapshot schemas (member_in s.number (session_of s) (plan_of plan)) request said state.first state.history) in
       let it : model.Given = record { out = message; notice = model.snapshot_at (length state.history); after = record (session_of s) { phase = model.live (length state.history) (plan_of plan) } } in
       subst (λ o. Drains state s.number (model.next_for schemas state s.number) o after) (sym sent.0)
-      (given_out schemas state room after key s h at it message (ap (λ phase. model.next_in schemas state s.number (session_of s) (phase_of phase)) is) refl
+      (given_out schemas state room after decides key s h at it message (ap (λ phase. model.next_in schemas state s.number (session_of s) (phase_of phase)) is) refl
       (sent_agrees (Asked request said plan) is unended sent.1.0 sent.1.1 sent.1.2))
   sends_in (Live sent_clock plan) is next given sent =
       let unended : is_over (phase_of s.phase) ≡ false = ap (λ phase. is_over (phase_of phase)) is in
@@ -171,11 +172,11 @@ module _ (schemas : Schemas) (state : model.Room) (room after : Room) (key : ℕ
       → Drains state s.number (model.next_for schemas state s.number) given after) [
         | true ↦ λ behind sent.
             subst (λ o. Drains state s.number (model.next_for schemas state s.number) o after) (sym sent.0)
-            (given_out schemas state room after key s h at it message (next_is ∙ ap (λ b. cond b (Some it) None) behind) refl
+            (given_out schemas state room after decides key s h at it message (next_is ∙ ap (λ b. cond b (Some it) None) behind) refl
             (sent_agrees (Live sent_clock plan) is unended sent.1.0 sent.1.1 sent.1.2))
         | false ↦ λ level sent.
             subst (λ o. Drains state s.number (model.next_for schemas state s.number) o after) (sym sent.0)
-            (given_nothing schemas state room after key s h at (next_is ∙ ap (λ b. cond b (Some it) None) level) (same_stands sent.1))
+            (given_nothing schemas state room after decides key s h at (next_is ∙ ap (λ b. cond b (Some it) None) level) (same_stands sent.1))
       ] refl sent
   sends_in (Ended reason told) is next given sent = absurd (cc)
 
@@ -194,7 +195,7 @@ sent_message room after key s t o said clock is now with changed =
 pub sent_nothing : (room after : Room) (key : ℕ) (s : Session) (o : Option ServerMessage) → None ≡ o → after ≡ room → Sends o key s None room after
 sent_nothing room after key s o is same = subst (λ o. Sends o key s None room after) is (refl, same)
 
-module _ (schemas : Schemas) (state : model.Room) (room after : Room) (key number : ℕ) (s : Session) (h : Stands state room) (at : get room.sessions.present key ≡ Some s)
+module _ (schemas : Schemas) (state : model.Room) (room after : Room) (decides : Decides schemas room after) (key number : ℕ) (s : Session) (h : Stands state room) (at : get room.sessions.present key ≡ Some s)
     (is : s.number ≡ number) where
   pub drains_end : (next : Next) (reason : EndReason) (told : Bool) (given : Option Out) → IsNext s next → next ≡ End reason told
       → (told ≡ true → (given ≡ None) × (after ≡ room))
@@ -206,10 +207,10 @@ module _ (schemas : Schemas) (state : model.Room) (room after : Room) (key numbe
       (elim told as (λ b. told ≡ b → s.phase ≡ Ended reason b → Drains state s.number (model.next_for schemas state s.number) given after) [
         | true ↦ λ b phase.
             subst (λ o. Drains state s.number (model.next_for schemas state s.number) o after) (sym (was b).0)
-            (ends_told schemas state room after key s h at reason phase (same_stands schemas state room after key s h at (was b).1))
+            (ends_told schemas state room after decides key s h at reason phase (same_stands schemas state room after decides key s h at (was b).1))
         | false ↦ λ b phase.
             subst (λ o. Drains state s.number (model.next_for schemas state s.number) o after) (sym (wasnt b).0)
-            (ends_untold schemas state room after key s h at reason phase (wasnt b).1)
+            (ends_untold schemas state room after decides key s h at reason phase (wasnt b).1)
       ] refl phase)
 
   pub drains_pong : (next : Next) (given : Out) → IsNext s next → next ≡ Pong → given ≡ out.Message reply.Pong → IsChanged key (record s { pings = s.pings - 1 }) room after
@@ -217,13 +218,13 @@ module _ (schemas : Schemas) (state : model.Room) (room after : Room) (key numbe
   drains_pong next given kind pong same changed =
       subst (λ o. Drains state number (model.next_for schemas state number) (Some o) after) (sym same)
       (subst (λ n. Drains state n (model.next_for schemas state n) (Some (out.Message reply.Pong)) after) is
-      (pongs schemas state room after key s h at (subst (IsNext s) pong kind) changed))
+      (pongs schemas state room after decides key s h at (subst (IsNext s) pong kind) changed))
 
   pub drains_message : (next : Next) (given : Option Out) → IsNext s next → next ≡ Message
       → Sends (message_in schemas state s.number (session_of s) (phase_of s.phase)) key s given room after → Drains state number (model.next_for schemas state number) given after
   drains_message next given kind message sent =
       subst (λ n. Drains state n (model.next_for schemas state n) given after) is
-      (sends schemas state room after key s h at (subst (IsNext s) message kind) given sent)
+      (sends schemas state room after decides key s h at (subst (IsNext s) message kind) given sent)
 
 -- what holds of a result's value
 pub if_ok : {A E : Type 0} (r : Result A E) (P Q : A → Type 0) → IfOk r P → ((x : A) → P x → Q x) → IfOk r Q

@@ -4,7 +4,7 @@ use Rattle.slab.specs.Slab.{get}
 use Rattle.schema_core.specs.SchemaOf.{schema_tree}
 use Rattle.schema_core.specs.Tree.{SchemaTree}
 use Rattle.room_model.specs.Rooms as model
-use Rattle.room_model.specs.Reachable.{is_over, AreSentNear}
+use Rattle.room_model.specs.Reachable.{is_over, AreSentNear, ArePresencesOwned}
 use Rattle.room_model.specs.declared.handled.Handled.{Handled}
 use Rattle.room_schemas.specs.Decided.{decided}
 use Rattle.room_history.specs.Keeps.{Keeps}
@@ -33,10 +33,11 @@ pub record Agrees (state : model.Room) (room : Room) : Type 0 where
   -- each entry of a push says what was accepted
   pub says : HasOwnActions (decided (tree_of room)) state.history
 
--- and none of those is further behind than it may be, as in every room that calls make
+-- as in every room that calls make, none of those is further behind than it may be, and each presence is that of one of them
 pub record Stands (state : model.Room) (room : Room) : Type 0 where
   pub agrees : Agrees state room
   pub near : AreSentNear state
+  pub presences : ArePresencesOwned (decided (tree_of room)) state
 
 -- a reply is the one of the definition, and the room afterwards agrees with the definition's
 pub record Follows (replied : model.Replied) (told : Handled) (after : Room) : Type 0 where

@@ -14,7 +14,7 @@ ghost use Rattle.sync_room.specs.declared.session.Session.{Session};
 
 use crate::room::Room;
 use crate::session::{Phase, Session, SessionId, member};
-use room_messages::{snapshot, updates};
+use room_messages::{Request, snapshot, updates};
 use rooms_val::{Mem, Steps};
 use std::alloc::Global;
 use std::sync::ledger::Ledger;
@@ -25,8 +25,10 @@ impl Room {
     /// ended, once; the answer to its connect, which is made now; a pong for each ping that waits;
     /// or what happened since the last message. `None` exactly if there is nothing.
     ///
-    /// It costs what it gives. If it tells what changed since a clock, it counts at most a step for
-    /// each id whose last entry lies above that clock, and one more.
+    /// It costs what it gives; for the answer to a connect it looks up the presences of the sessions
+    /// that are in the room, of which there are 64 at most. If it tells what changed since a clock, it
+    /// walks over no other record, and counts at most a step for each id whose last entry lies above
+    /// that clock, and one more.
     ///
     /// # Errors
     ///
@@ -142,7 +144,19 @@ impl Room {
                 plan,
             } => {
                 let member = member(session, plan);
-                let said = snapshot(alloc, &self.history, member, request, *reached, steps)?;
+                let present = self.sessions.numbers(alloc)?;
+                let request = Request {
+                    id: request,
+                    reached: *reached,
+                };
+                let said = snapshot(
+                    alloc,
+                    &self.history,
+                    member,
+                    present.as_slice(),
+                    request,
+                    steps,
+                )?;
                 Ok(Some(said))
             }
             Phase::Live { sent, plan } => {

@@ -1,6 +1,6 @@
 //! The sessions that are in a room, and how many have entered.
-ghost use Rattle.std.specs.Prelude.{◌≡◌, ◌+◌, ◌<◌, ◌≤◌, ◌++◌, ◌∷◌, [], IfOk, OnOk, OnErr, IfSome, IfNone, Some, None, ℕ, true, false};
-ghost use Rattle.slab.specs.Slab.{get, slab_len, ContainsKey, Updates};
+ghost use Rattle.std.specs.Prelude.{◌≡◌, ◌+◌, ◌<◌, ◌≤◌, ◌++◌, ◌∷◌, [], map, IfOk, OnOk, OnErr, IfSome, IfNone, Some, None, ℕ, true, false};
+ghost use Rattle.slab.specs.Slab.{get, entries, slab_len, ContainsKey, Updates};
 ghost use Rattle.room_model.specs.Rooms.{Room, is_full, after_enter};
 ghost use Rattle.room_model.specs.declared.limits.TheConstants.{MOST_ENTERED};
 ghost use Rattle.sync_room.specs.declared.session.Session.{Session};
@@ -158,6 +158,18 @@ impl Sessions {
             → self.new ≡ with_at key (record s { pings = pings }) self.old }
     {
         self.present[key].pings = pings;
+    }
+
+    // The number of each session in the table.
+    pub(crate) fn numbers(&self, alloc: Global) -> Mem<Vec<u64>>
+        ensures { IfOk result (λ numbers. numbers.items
+            ≡ map (λ entry. entry.1.number) (entries self.now.present)) }
+    {
+        let mut numbers = Vec::new(alloc);
+        'sessions: for (_key, session) in self.present.iter() {
+            numbers.push(session.number)?;
+        }
+        Ok(numbers)
     }
 
     // The key of the session with the least number among the live ones whose sent clock is below

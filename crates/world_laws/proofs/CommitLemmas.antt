@@ -46,7 +46,7 @@ module _ (schemas : Schemas) (lawful : AreLawful schemas) where
             whole (empty ∙ sym none) (ap (list_all (λ c. schemas.is_document c.0)) none)
         | inr all ↦
             let fit : is_fit schemas plan push.diff ≡ true = sym (ap (λ b. b || is_fit schemas plan push.diff) all.0) ∙ left _ _ taken in
-            whole (ap (λ b. cond b [] (accept_ops schemas plan m push.diff)) all.0 ∙ all.2) (fit_documents schemas lawful member m plan push.diff fit)
+            whole (ap (λ b. cond b [] (accept_ops schemas plan m push.diff)) all.0 ∙ all.2) (fit_documents schemas plan push.diff fit)
       ]
 
   -- the entry of a push that is taken answers it

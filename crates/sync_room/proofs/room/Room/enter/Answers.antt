@@ -1,7 +1,7 @@
 use Rattle.std.proofs.Common.{◌≡◌, false, cond, Some, None, refl, sym, ap, ◌∙◌}
 use Rattle.room_model.specs.Rooms.{is_full, after_enter}
 use Rattle.sync_room.specs.Standing.{tree_of}
-use Rattle.sync_room.proofs.RoomLemmas.{entered_near}
+use Rattle.sync_room.proofs.RoomLemmas.{entered_near, entered_owned}
 use Rattle.sync_room.proofs.room.Room.enter.Goals as goal
 
 pub returns-clause-entered : goal.returns-clause-entered
@@ -16,5 +16,6 @@ returns-clause-entered c = λ state h.
           says = h.agrees.says;
         };
         near = entered_near (tree_of c.args.self.now) state c.args.readonly h.near;
+        presences = entered_owned (tree_of c.args.self.now) state c.args.readonly h.presences;
       },
     )

@@ -29,7 +29,7 @@ returns-clause-left c = λ state h.
     leaves_ending state c.args.self.now _ c.args.session.key c.args.session.number c.requires.0 h c.requires.1 c.requires.2 c.in-Some.removal
     (sym (c.remove.ensures.removal c.requires.0 c.requires.1) ∙ c.in-Some.is) c.remove_presence.result c.remove_presence.ensures.was_there
     refl (ap schema_tree c.remove_presence.ensures.schema) (c.remove_presence.ensures.keeps state.first state.history h.agrees.history)
-    c.remove.ensures.updates c.remove.ensures.count c.remove.ensures.entered c.end_slow.new.self c.if-not-remove_presence.false c.end_slow.ensures.ended
+    c.remove.ensures.updates c.remove.ensures.count c.remove.ensures.entered c.end_slow.new.self c.end_slow.ensures.schema c.if-not-remove_presence.false c.end_slow.ensures.ended
 
 pub returns-clause-others : goal.returns-clause-others
 returns-clause-others c = λ other differs there.

@@ -15,6 +15,7 @@ use Rattle.sync_room.specs.Sending.{message_in, member_in, told_since}
 use Rattle.sync_room.specs.Sessions.{session_of, phase_of}
 use Rattle.sync_room.specs.Standing.{tree_of}
 use Rattle.sync_room.proofs.HandleLemmas.{same_member}
+use Rattle.sync_room.proofs.PresentLemmas.{presences_of}
 use Rattle.sync_room.proofs.SentLemmas.{sent_kept, sent_near}
 use Rattle.sync_room.proofs.room.Room.message.Goals as goal
 
@@ -27,7 +28,8 @@ returns-in_ok-said-in-Asked-clause-said g c = λ state s h at.
     let member_is : member_of c.member-member.result ≡ member =
     same_member (c.member-member.ensures.number ∙ ap (λ s. s.number) same) (c.member-member.ensures.readonly ∙ ap (λ s. s.readonly) same) (ap plan_of c.member-member.ensures.plan) in
     let fits : SFits w64 c.in-Asked.reached = search rules in
-    let said = c.in_ok-said-in-Asked.ensures.message state.first state.history h.agrees.history in
+    let present = presences_of state c.args.self.now c.as_slice.result.now h (c.as_slice.ensures.value ∙ c.in_ok-present-in-Asked.ensures) in
+    let said = c.in_ok-said-in-Asked.ensures.message state.first state.history h.agrees.history present in
     ap Some (said ∙ ap (λ m. snapshot schemas m c.in-Asked.request (to_z w64 (of_z w64 c.in-Asked.reached)) state.first state.history) member_is
     ∙ ap (λ reached. snapshot schemas member c.in-Asked.request reached state.first state.history) (to_z-of_z w64 c.in-Asked.reached fits))
     ∙ sym (ap (λ phase. message_in schemas state s.number (session_of s) (phase_of phase)) phase)
