@@ -1,0 +1,7 @@
+pub mod PlaceLemmas
+pub mod EventLemmas
+pub mod FitLemmas
+pub mod StepLemmas
+pub mod HeldLemmas
+pub mod TurnLemmas
+pub mod CloseLemmas

@@ -1,0 +1,9 @@
+pub mod Openings
+pub mod Rule
+pub mod Steps
+pub mod Held
+pub mod Turn
+pub mod Calls
+pub mod Views
+pub mod Passes
+pub mod Rooms
