@@ -19,7 +19,7 @@ use std::alloc::Global;
 const DEEPEST: usize = 64;
 
 impl Val {
-    ghost use Rattle.std.specs.Prelude.{Ok};
+    ghost use Rattle.std.specs.Prelude.{Ok, IsUtf8};
     ghost use Rattle.rooms_val.specs.Data.{depth};
     ghost use Rattle.rooms_val.specs.Json.{json_of, is_within, deepest, value_of, text_of};
     ghost use Rattle.rooms_val.specs.View.{data_of};
@@ -46,6 +46,7 @@ impl Val {
     /// The value as compact JSON, with the keys of every map rising by bytes.
     pub fn print(&self, alloc: Global) -> Mem<Vec<u8>>
         ensures text { IfOk result (λ text. text.items ≡ text_of (data_of self.now)) }
+        ensures utf8 { IfOk result (λ text. IsUtf8 text.items) }
         // What is printed is read as the value again, where its numbers are in range and it isn't too deep.
         ensures reads_back { IfOk result (λ text. let d = data_of self.now in
             IsTrue (is_within (json_of d)) → depth d ≤ deepest → value_of text.items ≡ Ok d) }

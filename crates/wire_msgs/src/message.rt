@@ -1,5 +1,5 @@
 //! The value and the text of each message.
-ghost use Rattle.std.specs.Prelude.{◌≡◌, IfOk};
+ghost use Rattle.std.specs.Prelude.{◌≡◌, IfOk, IsUtf8};
 ghost use Rattle.rooms_val.specs.Json.{text_of};
 ghost use Rattle.rooms_val.specs.View.{data_of};
 ghost use Rattle.wire_msgs.specs.Messages.{client_val, IsProperClient};
@@ -19,7 +19,7 @@ pub trait Message {
     /// The one value that stands for the message. It costs what it holds.
     fn val(&self, alloc: Global) -> Mem<Val>;
 
-    /// The text of that value, in the compact form. It costs what is printed.
+    /// The text of that value in UTF-8, in the compact form. It costs what is printed.
     fn print(&self, alloc: Global) -> Mem<Vec<u8>>;
 }
 
@@ -32,6 +32,7 @@ impl Message for ClientMessage {
 
     fn print(&self, alloc: Global) -> Mem<Vec<u8>>
         ensures text { IfOk result (λ text. text.items ≡ text_of (client_val self.now)) }
+        ensures utf8 { IfOk result (λ text. IsUtf8 text.items) }
         // It is read as the message, where its fields are in their ranges, its numbers within
         // 2^53 - 1 and its depth at most 56.
         ensures reads_back { IfOk result (λ text. IsProperClient self.now
@@ -50,6 +51,7 @@ impl Message for ServerMessage {
 
     fn print(&self, alloc: Global) -> Mem<Vec<u8>>
         ensures text { IfOk result (λ text. text.items ≡ text_of (server_val self.now)) }
+        ensures utf8 { IfOk result (λ text. IsUtf8 text.items) }
         // It is read as the message, where its fields are in their ranges, its numbers within
         // 2^53 - 1 and its depth at most 64.
         ensures reads_back { IfOk result (λ text. IsProperServer self.now

@@ -26,13 +26,16 @@ pub fn pieces(alloc: Global, text: &str) -> Mem<Vec<Text>>
     let mut to_come = parts.len();
     'parts: for part in parts.iter() {
         to_come -= 1;
-        pieces.push(numbered(alloc, to_come, part)?)?;
+        pieces.push(numbered_part(alloc, to_come, part)?)?;
     }
     Ok(pieces)
 }
 
-// The parts, each as long as may be.
-fn parts_of(alloc: Global, text: &str) -> Mem<Vec<&str>>
+/// The parts of a text, for one that is too long to go as it is: each is as long as may be and ends
+/// between two characters.
+///
+/// Costs the text's length, and a place for each part; no text is copied.
+pub fn parts_of(alloc: Global, text: &str) -> Mem<Vec<&str>>
     ensures { IfOk result (λ parts. AreParts text.now (map (λ part. part.now) parts.items)) }
 {
     let mut parts = Vec::new(alloc);
@@ -53,8 +56,10 @@ fn part_length(text: &str) -> usize
     text.floor_char_boundary(LONGEST_PART)
 }
 
-// A part after the number of those to come.
-fn numbered(alloc: Global, to_come: usize, part: &str) -> Mem<Text>
+/// The piece of a part: the part after the number of those to come and `_`.
+///
+/// Costs a copy of the part.
+pub fn numbered_part(alloc: Global, to_come: usize, part: &str) -> Mem<Text>
     ensures { IfOk result (λ piece. piece ≡ decimal to_come ++ 95 ∷ part.now) }
 {
     let mut piece = String::new(alloc);

@@ -14,6 +14,6 @@ pub mod laws;
 mod piece;
 
 pub use assembler::Assembler;
-pub use cut::{LONGEST_PART, pieces};
+pub use cut::{LONGEST_PART, numbered_part, parts_of, pieces};
 pub use fault::PieceFault;
 pub use piece::MOST_TO_COME;
