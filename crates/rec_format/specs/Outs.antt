@@ -12,9 +12,13 @@ use Rattle.sync_msgs.specs.declared.server_message.ServerMessage.{ServerMessage}
 use Rattle.wire_msgs.specs.Messages.{client_val, server_val}
 use Rattle.rec_format.specs.declared.fields.TheConstants.{MOST_PRINTED}
 
--- a number as it is printed: the greatest that a value can have stands for all beyond it
+-- the number that is printed for a number: the greatest that a value can have stands for all beyond it
+abbrev pub number_printed : ℕ → ℕ
+number_printed n = if nat_le n MOST_PRINTED then n else MOST_PRINTED
+
+-- the value of a number that is printed
 abbrev pub number_val : ℕ → Data
-number_val n = whole (pos (if nat_le n MOST_PRINTED then n else MOST_PRINTED))
+number_val n = whole (pos (number_printed n))
 
 -- the name of a reason
 abbrev pub reason_text : EndReason → List ℕ

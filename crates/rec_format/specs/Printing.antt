@@ -4,8 +4,33 @@ use Rattle.rooms_val.specs.Data.{Data, depth}
 use Rattle.rooms_val.specs.Json.{json_of, is_within, deepest}
 use Rattle.room_model.specs.declared.event.Event.{Event}
 use Rattle.room_model.specs.declared.event.Event.TheVariants as event
+use Rattle.rec_format.specs.Outs.{number_printed}
 use Rattle.rec_format.specs.declared.recorded.RecordedEvent.{RecordedEvent}
 use Rattle.rec_format.specs.declared.recorded.RecordedEvent.TheVariants as recorded
+
+-- the event that the line of an event says: its number is the one that is printed
+abbrev pub as_printed : Event → Event
+as_printed (event.Client v) = event.Client v
+as_printed (event.Connect c readonly) = event.Connect (number_printed c) readonly
+as_printed (event.Edit c diff) = event.Edit (number_printed c) diff
+as_printed (event.Presence c r) = event.Presence (number_printed c) r
+as_printed (event.Mark c name) = event.Mark (number_printed c) name
+as_printed (event.Undo c) = event.Undo (number_printed c)
+as_printed (event.Redo c) = event.Redo (number_printed c)
+as_printed (event.Bail c name) = event.Bail (number_printed c) name
+as_printed (event.Handle s) = event.Handle (number_printed s)
+as_printed (event.Send s) = event.Send (number_printed s)
+as_printed (event.Deliver c) = event.Deliver (number_printed c)
+as_printed (event.Cut c) = event.Cut (number_printed c)
+as_printed (event.Lose s) = event.Lose (number_printed s)
+as_printed (event.Show c) = event.Show (number_printed c)
+as_printed event.End = event.End
+
+-- the same of every event of a recording
+abbrev pub as_printed_recorded : RecordedEvent → RecordedEvent
+as_printed_recorded (recorded.World e) = recorded.World (as_printed e)
+as_printed_recorded (recorded.Watch c view) = recorded.Watch (number_printed c) view
+as_printed_recorded (recorded.Query c type query) = recorded.Query (number_printed c) type query
 
 -- a number that a value can have
 abbrev pub Fits : ℕ → Type 0

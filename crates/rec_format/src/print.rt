@@ -4,7 +4,9 @@ ghost use Rattle.rooms_val.specs.Json.{text_of};
 ghost use Rattle.rec_format.specs.Events.{event_val, event_fields, IsProper};
 ghost use Rattle.rec_format.specs.Events.{does, of_client, of_session, with_name};
 ghost use Rattle.rec_format.specs.Lines.{IsEvent};
+ghost use Rattle.rec_format.specs.Outs.{number_printed};
 ghost use Rattle.rec_format.specs.Printing.{Fits, IsPrintable, IsPrintableRecorded, IsReadable};
+ghost use Rattle.rec_format.specs.Printing.{as_printed, as_printed_recorded};
 ghost use Rattle.rec_format.specs.Recorded.{recorded_val, recorded_fields, IsProperRecorded};
 ghost use Rattle.rec_format.specs.Recorded.{watch_fields, query_fields};
 ghost use Rattle.rec_format.specs.declared.recorded.RecordedEvent.TheVariants as recorded;
@@ -25,6 +27,8 @@ use view_vals::{query_val, view_val};
 /// A number of a client or session from 2^63 on is printed as 2^63 - 1; every other event has its
 /// own line.
 pub fn print_event(alloc: Global, event: &Event) -> Mem<Vec<u8>>
+    ensures printed { IfOk result (λ line.
+        line.items ≡ text_of (event_val (as_printed event.now))) }
     ensures text { IfOk result (λ line. IsPrintable event.now
         → line.items ≡ text_of (event_val event.now)) }
     // It is read as the event, where it isn't too long and its numbers and depth are in range.
@@ -41,6 +45,8 @@ pub fn print_event(alloc: Global, event: &Event) -> Mem<Vec<u8>>
 /// A number of a client or session from 2^63 on is printed as 2^63 - 1; every other event has its
 /// own line.
 pub fn print_recorded(alloc: Global, event: &RecordedEvent) -> Mem<Vec<u8>>
+    ensures printed { IfOk result (λ line.
+        line.items ≡ text_of (recorded_val (as_printed_recorded event.now))) }
     ensures text { IfOk result (λ line. IsPrintableRecorded event.now
         → line.items ≡ text_of (recorded_val event.now)) }
     // It is read as the event, where it isn't too long and its numbers and depth are in range.
@@ -54,7 +60,9 @@ pub fn print_recorded(alloc: Global, event: &RecordedEvent) -> Mem<Vec<u8>>
 
 // The fields of an event, or of a watch or query.
 fn recorded_fields(alloc: Global, event: &RecordedEvent) -> Mem<Fields>
-    ensures { IfOk result (λ fields. IsPrintableRecorded event.now
+    ensures printed { IfOk result (λ fields.
+        fields ≡ recorded_fields (as_printed_recorded event.now)) }
+    ensures fits { IfOk result (λ fields. IsPrintableRecorded event.now
         → fields ≡ recorded_fields event.now) }
 {
     match event {
@@ -69,14 +77,18 @@ fn recorded_fields(alloc: Global, event: &RecordedEvent) -> Mem<Fields>
 }
 
 fn watch_fields(alloc: Global, client: u64, view: &View) -> Mem<Fields>
-    ensures { IfOk result (λ fields. Fits client → fields ≡ watch_fields client view.now) }
+    ensures printed { IfOk result (λ fields.
+        fields ≡ watch_fields (number_printed client) view.now) }
+    ensures fits { IfOk result (λ fields. Fits client → fields ≡ watch_fields client view.now) }
 {
     let fields = of_client(alloc, Verb::Watch, client)?;
     with(alloc, fields, "view", view_val(alloc, view)?)
 }
 
 fn query_fields(alloc: Global, client: u64, type_name: &Text, where_: &Query) -> Mem<Fields>
-    ensures { IfOk result (λ fields.
+    ensures printed { IfOk result (λ fields.
+        fields ≡ query_fields (number_printed client) type_name.now where_.now) }
+    ensures fits { IfOk result (λ fields.
         Fits client → fields ≡ query_fields client type_name.now where_.now) }
 {
     let fields = of_client(alloc, Verb::Query, client)?;
@@ -86,7 +98,8 @@ fn query_fields(alloc: Global, client: u64, type_name: &Text, where_: &Query) ->
 
 // The fields of an event.
 fn fields_of(alloc: Global, event: &Event) -> Mem<Fields>
-    ensures { IfOk result (λ fields. IsPrintable event.now → fields ≡ event_fields event.now) }
+    ensures printed { IfOk result (λ fields. fields ≡ event_fields (as_printed event.now)) }
+    ensures fits { IfOk result (λ fields. IsPrintable event.now → fields ≡ event_fields event.now) }
 {
     match event {
         Event::Client { version } => {
@@ -133,14 +146,17 @@ fn verb_alone(alloc: Global, verb: Verb) -> Mem<Fields>
 
 // The fields of an event of a client that has no further one.
 fn of_client(alloc: Global, verb: Verb, client: u64) -> Mem<Fields>
-    ensures { IfOk result (λ fields. Fits client → fields ≡ of_client verb client) }
+    ensures printed { IfOk result (λ fields. fields ≡ of_client verb (number_printed client)) }
+    ensures fits { IfOk result (λ fields. Fits client → fields ≡ of_client verb client) }
 {
     with(alloc, verb_alone(alloc, verb)?, "client", number(client))
 }
 
 // The fields of an event of a client that has a name.
 fn of_client_and_name(alloc: Global, verb: Verb, client: u64, name: &Text) -> Mem<Fields>
-    ensures { IfOk result (λ fields. Fits client → fields ≡ with_name verb client name.now) }
+    ensures printed { IfOk result (λ fields.
+        fields ≡ with_name verb (number_printed client) name.now) }
+    ensures fits { IfOk result (λ fields. Fits client → fields ≡ with_name verb client name.now) }
 {
     let fields = of_client(alloc, verb, client)?;
     with(alloc, fields, "name", Val::Text(name.copy(alloc)?))
@@ -148,7 +164,8 @@ fn of_client_and_name(alloc: Global, verb: Verb, client: u64, name: &Text) -> Me
 
 // The fields of an event of a session.
 fn of_session(alloc: Global, verb: Verb, session: u64) -> Mem<Fields>
-    ensures { IfOk result (λ fields. Fits session → fields ≡ of_session verb session) }
+    ensures printed { IfOk result (λ fields. fields ≡ of_session verb (number_printed session)) }
+    ensures fits { IfOk result (λ fields. Fits session → fields ≡ of_session verb session) }
 {
     with(alloc, verb_alone(alloc, verb)?, "session", number(session))
 }
