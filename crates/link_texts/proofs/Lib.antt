@@ -1,0 +1,4 @@
+pub mod PieceLemmas
+pub mod HearingLemmas
+pub mod JoinLemmas
+pub mod SendingLemmas
