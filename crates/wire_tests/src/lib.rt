@@ -4,6 +4,8 @@
 #[cfg(test)]
 mod clients;
 #[cfg(test)]
+mod joins;
+#[cfg(test)]
 mod pieces;
 #[cfg(test)]
 mod refusals;

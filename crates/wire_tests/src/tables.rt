@@ -1,5 +1,6 @@
 //! Tables of texts, each row with what is made of its text.
 use crate::clients::client_text;
+use crate::joins::join_text;
 use crate::pieces::{all_given, cut_lengths};
 use crate::refusals::nested_fault;
 use crate::rooms::room_text;
@@ -15,6 +16,8 @@ pub(crate) enum Reading {
     Client,
     // Messages of rooms.
     Room,
+    // Joins.
+    Join,
     // Depths of messages.
     Nested,
     // Pieces, parted by blanks.
@@ -28,6 +31,7 @@ fn answer(alloc: Global, reading: Reading, text: &str) -> Result<String, Fail> {
     match reading {
         Reading::Client => client_text(alloc, text),
         Reading::Room => room_text(alloc, text),
+        Reading::Join => join_text(alloc, text),
         Reading::Nested => nested_fault(alloc, text),
         Reading::Fed => all_given(alloc, text),
         Reading::Cut => cut_lengths(alloc, text),
