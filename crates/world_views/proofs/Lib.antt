@@ -6,3 +6,4 @@ pub mod EventLemmas
 pub mod WatchLemmas
 pub mod TellLemmas
 pub mod LeavingLemmas
+pub mod ConsequenceLemmas

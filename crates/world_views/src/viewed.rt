@@ -1,12 +1,18 @@
 //! A world whose clients watch views, which plays a recording event by event.
 ghost use Rattle.std.specs.Prelude.{◌≡◌, ◌∷◌, [], ℕ, Bool, List, Some, None, true, IfOk, OnOk, Err};
+ghost use Rattle.rooms_val.specs.Data.{Pairs};
 ghost use Rattle.room_model.specs.Schemas.{WorldSchemas};
+ghost use Rattle.room_model.specs.declared.event.Event.{Event};
+ghost use Rattle.rec_format.specs.declared.recorded.RecordedEvent.TheVariants as recorded;
 ghost use Rattle.side_effects.specs.declared.fault.EditFault.{EditFault};
 ghost use Rattle.tl_tables.specs.Tables.{IsVersion};
 ghost use Rattle.sync_world.specs.Playing.{IsPlayed};
 ghost use Rattle.sync_world.specs.Standing.{IsAtVersion};
 ghost use Rattle.sync_world.specs.Viewing.{changed_by};
 ghost use Rattle.sync_world.specs.CaughtUp.{CaughtUpShowTheRoom};
+ghost use Rattle.sync_world.specs.Entries.{ReadonlyEditNothing, AuthorsNameTheirOwn};
+ghost use Rattle.sync_world.specs.Entries.{OthersRemovePresences, ClosesSince};
+ghost use Rattle.sync_world.specs.Restoring.{IsSinceMark, GoesBack, Shows};
 ghost use Rattle.world_views.specs.Views.{Viewed, nothing_viewed, tells, on_event, on_watch, on_query, after_recorded};
 ghost use Rattle.world_views.specs.Standing.{Keeps, MayTell, After, Stands, StepsTo, IsPlayable, is_spent};
 
@@ -54,6 +60,9 @@ impl ViewedWorld {
     /// world, and a look at each watch of the one client whose document or watches it may change; a
     /// query costs a walk over the ids of what its client shows.
     ///
+    /// A bail and an undo bring back what their client showed, under the conditions of
+    /// `World::step`. What that says of the clients and of the room's history afterwards holds here.
+    ///
     /// # Errors
     ///
     /// `NoSuchClient`, `NoSuchSession`, `NothingThere`, `Edit`, `Connect`, `NoMark` and `Limit` exactly if
@@ -70,7 +79,19 @@ impl ViewedWorld {
         ensures step { (schemas : WorldSchemas EditFault) (viewed : Viewed)
             → Stands schemas viewed self.old
             → StepsTo schemas viewed (after_recorded schemas trace viewed event) result self.new }
+        ensures goes_back { OnOk result ((schemas : WorldSchemas EditFault) (viewed : Viewed)
+            (number : ℕ) (name : List ℕ) (before : Pairs) (e : Event)
+            → event ≡ recorded.World e → Stands schemas viewed self.old
+            → IsSinceMark schemas number name before viewed.world
+            → GoesBack schemas viewed.world number name before e
+            → Shows schemas number before self.new.world) }
         ensures caught_up { CaughtUpShowTheRoom self.new.world }
+        ensures readonly { ReadonlyEditNothing self.new.world }
+        ensures authored { AuthorsNameTheirOwn self.new.world }
+        ensures unauthored { OthersRemovePresences self.new.world }
+        ensures closing { OnOk result ((schemas : WorldSchemas EditFault) (viewed : Viewed)
+            → Stands schemas viewed self.old
+            → ClosesSince schemas viewed.world.room self.new.world) }
         ensures spent { self.old.spent ≡ true
             → (result ≡ Err StepFault.OutOfMemory) × (self.new.spent ≡ true) }
         ensures spends { result ≡ Err StepFault.OutOfMemory → self.new.spent ≡ true }
