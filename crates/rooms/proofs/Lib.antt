@@ -7,3 +7,4 @@ pub mod NumberLemmas
 pub mod CaughtUpLemmas
 pub mod MadeLemmas
 pub mod ReadyLemmas
+pub mod OneTextLemmas

@@ -9,6 +9,7 @@
 #![tactic(auto)]
 
 mod job;
+mod laws;
 mod make;
 mod making;
 mod numbers;
