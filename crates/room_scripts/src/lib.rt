@@ -21,8 +21,11 @@
 //! The crate says nothing in contracts: what a room answers is looked at where the tests are run.
 #![tactic(auto)]
 
+mod messages;
 mod says;
 mod steps;
 mod texts;
 
+pub use messages::message_of;
+pub use says::{handled_text, out_text};
 pub use steps::first_difference;

@@ -6,8 +6,11 @@ use std::alloc::Global;
 use std::test::Fail;
 use sync_msgs::{Action, DataEvent, EndReason, Events, Hydration, Out, ServerMessage};
 
-// What became of a message.
-pub(crate) fn handled_text(alloc: Global, handled: Handled) -> Result<String, Fail> {
+/// What became of a message, as text.
+///
+/// # Errors
+/// Where memory is refused.
+pub fn handled_text(alloc: Global, handled: Handled) -> Result<String, Fail> {
     let text = match handled {
         Handled::Taken => "taken",
         Handled::Entered => "entered",
@@ -28,8 +31,11 @@ fn reason_text(reason: EndReason) -> &'static str {
     }
 }
 
-// What a session is given, with its diffs.
-pub(crate) fn out_text(alloc: Global, out: &Out) -> Result<String, Fail> {
+/// What a session is given, as text with its diffs.
+///
+/// # Errors
+/// Where memory is refused.
+pub fn out_text(alloc: Global, out: &Out) -> Result<String, Fail> {
     match out {
         Out::Message(message) => message_text(alloc, message),
         Out::End(reason) => Ok(format!(in alloc; "end {}", reason_text(*reason))?),

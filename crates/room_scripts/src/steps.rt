@@ -2,13 +2,12 @@
 ghost use Rattle.std.specs.Prelude.{◌≡◌, ◌<◌};
 ghost use Rattle.sync_room.specs.Sessions.{IsIn};
 
+use crate::messages::{message_of, numbered_push};
 use crate::says::{amount_text, handled_text, out_text};
-use crate::texts::{add_numbered, cut, lettered, number, whole};
-use board_tables::{board_diff, board_value, expanded};
+use crate::texts::{cut, number};
+use board_tables::expanded;
 use case_tables::{cells, printed, rows};
-use field_ops::{Diff, RecordOp, read_op};
-use migrate_seq::Serialized;
-use rooms_val::{Steps, Text};
+use rooms_val::Steps;
 use std::alloc::Global;
 use std::marker::Brand;
 use std::sync::ledger::{Blank, Ledger};
@@ -73,16 +72,14 @@ fn new_room(alloc: Global, last: i64) -> Result<Room, Fail> {
 
 // What a room answers to a step.
 fn answer(alloc: Global, room: &mut Room, step: &str) -> Result<String, Fail> {
+    if let Some((session, message)) = message_of(alloc, step)? {
+        return handled(alloc, room, session, &message);
+    }
     let (word, rest) = cut(step);
     match word {
-        "push" => push(alloc, room, rest),
-        "presence" => presence(alloc, room, rest),
-        "bulk" => bulk(alloc, room, rest),
         "each" => each(alloc, room, rest),
-        "connect" => connect(alloc, room, rest),
         "drain" => given(alloc, room, rest, false),
         "count" => given(alloc, room, rest, true),
-        "ping" => handled(alloc, room, number(rest)?, &ClientMessage::Ping),
         _ => passed(alloc, room, word, rest),
     }
 }
@@ -208,108 +205,6 @@ fn drained_in<L: Ledger>(
     Ok(room.drain(alloc, id, &mut steps)?)
 }
 
-// A session asks to be connected.
-fn connect(alloc: Global, room: &mut Room, rest: &str) -> Result<String, Fail> {
-    let (session, rest) = cut(rest);
-    let (version, rest) = cut(rest);
-    let (reached, protocol) = cut(rest);
-    let message = ClientMessage::Connect {
-        connect_request_id: Text::of(alloc, session)?,
-        last_server_clock: whole(reached)?,
-        protocol_version: if protocol.is_empty() {
-            1
-        } else {
-            whole(protocol)?
-        },
-        schema: versions(alloc, version)?,
-    };
-    handled(alloc, room, number(session)?, &message)
-}
-
-// The schema of a version, as a client says it.
-fn versions(alloc: Global, version: &str) -> Result<Serialized, Fail> {
-    let sequences = match version {
-        "none" => "{}",
-        "1" => r#"{"rooms.base":1}"#,
-        "2" => r#"{"rooms.base":1,"rooms.shape":1}"#,
-        "3" => r#"{"rooms.base":1,"rooms.binding":1,"rooms.shape":2}"#,
-        "newer" => r#"{"rooms.base":1,"rooms.binding":1,"rooms.shape":3}"#,
-        _ => r#"{"rooms.base":1,"rooms.camera":1}"#,
-    };
-    let text = format!(in alloc; r#"{{"schemaVersion":2,"sequences":{sequences}}}"#)?;
-    Ok(Serialized::read(alloc, &board_value(alloc, text.as_str())?)?)
-}
-
-// A session pushes a diff, if any.
-fn push(alloc: Global, room: &mut Room, rest: &str) -> Result<String, Fail> {
-    let (session, rest) = cut(rest);
-    let (clock, text) = cut(rest);
-    let diff = if text == "-" {
-        None
-    } else {
-        Some(board_diff(alloc, text)?)
-    };
-    pushed(alloc, room, number(session)?, whole(clock)?, diff, None)
-}
-
-// A session pushes an operation on its presence.
-fn presence(alloc: Global, room: &mut Room, rest: &str) -> Result<String, Fail> {
-    let (session, rest) = cut(rest);
-    let (clock, text) = cut(rest);
-    let op = read_op(alloc, &board_value(alloc, text)?)?;
-    pushed(alloc, room, number(session)?, whole(clock)?, None, Some(op))
-}
-
-// A session pushes a diff and an operation on its presence, if any.
-fn pushed(
-    alloc: Global,
-    room: &mut Room,
-    session: u64,
-    client_clock: i64,
-    diff: Option<Diff>,
-    presence: Option<RecordOp>,
-) -> Result<String, Fail> {
-    let message = ClientMessage::Push {
-        client_clock,
-        diff,
-        presence,
-    };
-    handled(alloc, room, session, &message)
-}
-
-// A session pushes a diff of many parts.
-fn bulk(alloc: Global, room: &mut Room, rest: &str) -> Result<String, Fail> {
-    let (session, rest) = cut(rest);
-    let (clock, rest) = cut(rest);
-    let (from, rest) = cut(rest);
-    let (count, text) = cut(rest);
-    let diff = bulk_diff(alloc, number(from)?, number(count)?, text)?;
-    pushed(
-        alloc,
-        room,
-        number(session)?,
-        whole(clock)?,
-        Some(diff),
-        None,
-    )
-}
-
-// A diff of so many parts, numbered from a number on.
-fn bulk_diff(alloc: Global, from: u64, count: u64, text: &str) -> Result<Diff, Fail> {
-    let text = lettered(alloc, text)?;
-    let part = expanded(alloc, text.as_str())?;
-    let mut all = String::from_str(alloc, "{")?;
-    for place in 0..count {
-        if 0 < place {
-            all.push_str(",")?;
-        }
-        let name = format!(in alloc; "{}", from.saturating_add(place))?;
-        add_numbered(&mut all, part.as_str(), name.as_str())?;
-    }
-    all.push_str("}")?;
-    board_diff(alloc, all.as_str())
-}
-
 // A session pushes many diffs, one after the other.
 fn each(alloc: Global, room: &mut Room, rest: &str) -> Result<String, Fail> {
     let (session, rest) = cut(rest);
@@ -319,30 +214,8 @@ fn each(alloc: Global, room: &mut Room, rest: &str) -> Result<String, Fail> {
     let mut told = String::new(alloc);
     for place in 0..number(count)? {
         let clock = from.saturating_add(place);
-        told = pushed_at(alloc, room, number(session)?, clock, text)?;
+        let message = numbered_push(alloc, clock, text)?;
+        told = handled(alloc, room, number(session)?, &message)?;
     }
     Ok(told)
-}
-
-// A session pushes a diff that names its client clock.
-fn pushed_at(
-    alloc: Global,
-    room: &mut Room,
-    session: u64,
-    clock: u64,
-    text: &str,
-) -> Result<String, Fail> {
-    let name = format!(in alloc; "{clock}")?;
-    let mut diff = String::from_str(alloc, "{")?;
-    add_numbered(&mut diff, text, name.as_str())?;
-    diff.push_str("}")?;
-    let diff = board_diff(alloc, diff.as_str())?;
-    pushed(
-        alloc,
-        room,
-        session,
-        whole(name.as_str())?,
-        Some(diff),
-        None,
-    )
 }
