@@ -1,0 +1,15 @@
+//! Tests of the calls of a running room: tables of calls of one thread.
+//!
+//! What plays them stands outside the tests and tells the first difference, so that it is proved once. It says nothing in contracts
+//! but that passes stay of their room: what a running room answers is looked at where the tests are run. Each history that a
+//! running room wrote is written out as a script of `room_scripts`, whose rows are its events with their replies, and is played by
+//! one thread in a new room.
+#![tactic(auto)]
+
+mod cast;
+mod pens;
+mod scripts;
+#[cfg(test)]
+mod tables;
+
+pub use scripts::first_difference;
