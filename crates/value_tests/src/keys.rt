@@ -29,6 +29,7 @@ a- | Err(BadDigit)
 a[ | Err(BadDigit)
 a0é | Err(BadDigit)
 a00 | Err(TrailingZero)
+a10 | Err(TrailingZero)
 A000000000000000000000000000 | Err(TrailingZero)
 A00000000000000000000000000 | Err(SmallestInteger)
 # The first of two faults is named.
