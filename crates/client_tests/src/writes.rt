@@ -39,18 +39,27 @@ fn connect(alloc: Global, client: &mut Client, notes: u32) -> Result<(), Fail> {
     done(alloc, client, answer.as_str())
 }
 
-/// Patches a note.
-fn patch(alloc: Global, client: &mut Client, note: u32) -> Result<(), Fail> {
-    let edit = format!(in alloc; r#"edit {{"note:{note}":["patch",{{"x":["put",2]}}]}}"#)?;
-    done(alloc, client, edit.as_str())
+/// The part of a diff that patches a note.
+fn patch(alloc: Global, note: u32, place: u32) -> Result<String, Fail> {
+    let comma = if place == 0 { "" } else { "," };
+    Ok(format!(in alloc; r#"{comma}"note:{note}":["patch",{{"x":["put",2]}}]"#)?)
 }
 
-/// Patches so many notes one after the other, again and again.
-fn patch_each(alloc: Global, client: &mut Client, notes: u32) -> Result<(), Fail> {
-    for number in 0..PENDING {
-        patch(alloc, client, number % notes.max(1))?;
+/// Makes an edit of so many patches, which has a number: of each note in turn, where there are so many notes.
+fn edit(
+    alloc: Global,
+    client: &mut Client,
+    number: u32,
+    patches: u32,
+    notes: u32,
+) -> Result<(), Fail> {
+    let mut edit = String::from_str(alloc, "edit {")?;
+    for place in 0..patches {
+        let note = number.saturating_mul(patches).saturating_add(place) % notes.max(1);
+        edit.push_str(patch(alloc, note, place)?.as_str())?;
     }
-    Ok(())
+    edit.push_str("}")?;
+    done(alloc, client, edit.as_str())
 }
 
 /// How often a client writes where it takes one patch.
@@ -61,21 +70,53 @@ fn written(alloc: Global, client: &mut Client) -> Result<u64, Fail> {
     Ok(client.store().writes().saturating_sub(before))
 }
 
-/// How often a client of so many notes writes where it takes one patch over pending ones.
-fn writes(alloc: Global, notes: u32) -> Result<u64, Fail> {
+/// What a client has: how many notes, and in how many edits it patches them.
+#[derive(Clone, Copy)]
+struct Case {
+    notes: u32,
+    edits: u32,
+}
+
+/// How often a client writes where it takes one patch over pending ones.
+fn writes(alloc: Global, case: Case) -> Result<u64, Fail> {
     let mut client = made(alloc)?;
-    connect(alloc, &mut client, notes)?;
-    patch_each(alloc, &mut client, notes)?;
+    connect(alloc, &mut client, case.notes)?;
+    for number in 0..case.edits {
+        let patches = PENDING / case.edits.max(1);
+        edit(alloc, &mut client, number, patches, case.notes)?;
+    }
     written(alloc, &mut client)
 }
 
-/// How many notes there are, and how often is written: each note is written back, one is patched, and the patches are replayed.
-const WRITES: [(u32, u64); 2] = [(400, 400 + 1 + 400), (1, 1 + 1 + 400)];
+/// Cases, and how often is written: each note is written back, one is patched, and the patches are replayed.
+const WRITES: [(Case, u64); 3] = [
+    (
+        Case {
+            notes: 400,
+            edits: 400,
+        },
+        400 + 1 + 400,
+    ),
+    (
+        Case {
+            notes: 1,
+            edits: 400,
+        },
+        1 + 1 + 400,
+    ),
+    (
+        Case {
+            notes: 400,
+            edits: 1,
+        },
+        400 + 1 + 400,
+    ),
+];
 
 #[test]
 fn writes_twice_for_each_pending_patch_at_most(rt: HostRuntime) -> Result<(), Fail> {
-    for (notes, wanted) in WRITES.iter() {
-        assert_eq!(rt; writes(rt.alloc(), *notes)?, *wanted);
+    for (case, wanted) in WRITES.iter() {
+        assert_eq!(rt; writes(rt.alloc(), *case)?, *wanted);
     }
     Ok(())
 }
