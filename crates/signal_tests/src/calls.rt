@@ -21,7 +21,7 @@ struct Board<L: Ledger> {
 }
 
 // The key of a text: its rank and its place, as in `1.0`.
-fn key(text: &str) -> Result<u64, Fail> {
+pub(crate) fn key(text: &str) -> Result<u64, Fail> {
     let mut parts = text.split('.');
     let rank: u8 = parts.next().unwrap_or("").parse()?;
     let place: u32 = parts.next().unwrap_or("").parse()?;
@@ -29,12 +29,24 @@ fn key(text: &str) -> Result<u64, Fail> {
 }
 
 // What a call of `watch` gave: the number, or that there are too many.
-fn watched(alloc: Global, given: Result<WatchId, WatchFault>) -> Result<String, Fail> {
+pub(crate) fn watched(alloc: Global, given: Result<WatchId, WatchFault>) -> Result<String, Fail> {
     match given {
         Ok(id) => Ok(format!(in alloc; "{}", id.number)?),
         Err(WatchFault::Full) => Ok(format!(in alloc; "full")?),
         Err(WatchFault::OutOfMemory) => Err(OutOfMemory)?,
     }
+}
+
+// What is due, and how often the rules were asked for it.
+pub(crate) fn due_text(alloc: Global, due: &[(WatchId, u64)], asks: u64) -> Result<String, Fail> {
+    let mut text = String::new(alloc);
+    for (id, value) in due {
+        let part = format!(in alloc; "{}:{value} ", id.number)?;
+        text.push_str(part.as_str())?;
+    }
+    let part = format!(in alloc; "after {asks}")?;
+    text.push_str(part.as_str())?;
+    Ok(text)
 }
 
 // What a call gave in place of what was wanted.
@@ -105,29 +117,17 @@ impl<L: Ledger> Board<L> {
         Ok(format!(in alloc; "done")?)
     }
 
-    // What is due, and how often the rules were asked for it.
-    fn due_text(&self, alloc: Global, due: &[(WatchId, u64)], before: u64) -> Result<String, Fail> {
-        let mut text = String::new(alloc);
-        for (id, value) in due {
-            let part = format!(in alloc; "{}:{value} ", id.number)?;
-            text.push_str(part.as_str())?;
-        }
-        let part = format!(in alloc; "after {}", self.asks_since(before))?;
-        text.push_str(part.as_str())?;
-        Ok(text)
-    }
-
     fn due(&mut self, alloc: Global) -> Result<String, Fail> {
         let before = self.asked.get();
         let due = self.graph.due(alloc, &mut self.steps)?;
-        self.due_text(alloc, &due, before)
+        due_text(alloc, &due, self.asks_since(before))
     }
 
     // What is due, without telling it.
     fn news(&mut self, alloc: Global) -> Result<String, Fail> {
         let before = self.asked.get();
         let news = self.graph.news(alloc, &mut self.steps)?;
-        self.due_text(alloc, news.due(), before)
+        due_text(alloc, news.due(), self.asks_since(before))
     }
 
     // What is due, which is told.
@@ -135,7 +135,7 @@ impl<L: Ledger> Board<L> {
         let before = self.asked.get();
         let news = self.graph.news(alloc, &mut self.steps)?;
         let due = self.graph.tell(news);
-        self.due_text(alloc, &due, before)
+        due_text(alloc, &due, self.asks_since(before))
     }
 
     fn changed(&self, alloc: Global, key: u64) -> Result<String, Fail> {

@@ -45,11 +45,11 @@ set 2 3 | true
 begin | open
 set 1 4 | true
 commit | done
-choice | 4 after 3
+get 1.0 | 4 after 3
 abort | done
-choice | 2 after 3
+get 1.0 | 2 after 3
 set 2 9 | true
-choice | 2 after 0
+get 1.0 | 2 after 0
 since 1 | 0
 begin | open
 set 3 8 | true
@@ -59,12 +59,12 @@ since 1 | 3 1:2 2:9 3:8
 begin | open
 set 1 6 | true
 abort | done
-choice | 2 after 3
+get 1.0 | 2 after 3
 since 1 | 3 1:2 2:9 3:8
 begin | open
 set 3 1 | true
 abort | done
-choice | 2 after 0
+get 1.0 | 2 after 0
 ";
 
 // A transaction tells its last 256 writes.
@@ -107,6 +107,40 @@ changed 1 | 8
 changed 0 | none
 ";
 
+// What is fresh asks the rules nothing, in a transaction and after it.
+// 2.0 is the sum of 1.1 and 1.2, which are atom 0; 1.0 reads atom 0, and then atom 1 where that is 0, else atom 2.
+const COUNTED: &str = "
+set 0 3 | true
+get 2.0 | 6 after 7
+copied 2.0 | 6 after 0
+begin | open
+get 2.0 | 6 after 0
+set 1 5 | true
+copied 2.0 | 6 after 0
+set 0 4 | true
+copied 2.0 | 8 after 7
+get 2.0 | 8 after 0
+due | one is open
+abort | done
+get 1.1 | 3 after 2
+get 2.0 | 6 after 5
+watch 2.0 | 0
+watch 1.0 | 1
+due | 0:6 1:0 after 3
+due | after 0
+begin | open
+set 2 9 | true
+commit | done
+tell | 1:9 after 3
+tell | after 0
+due | after 0
+begin | open
+set 0 0 | true
+set 0 3 | true
+commit | done
+due | after 10
+";
+
 // Asserts that each call of a table gives what it says.
 fn plays(rt: &impl Abort, alloc: Global, table: &str) -> Result<(), Fail> {
     assert_eq!(rt; play_nested(alloc, table)?.as_str(), "");
@@ -119,5 +153,6 @@ fn transactions_give_what_their_tables_say(rt: HostRuntime) -> Result<(), Fail> 
     plays(&rt, rt.alloc(), DEEP)?;
     plays(&rt, rt.alloc(), LEVELS)?;
     plays(&rt, rt.alloc(), LONG)?;
-    plays(&rt, rt.alloc(), ABORTED)
+    plays(&rt, rt.alloc(), ABORTED)?;
+    plays(&rt, rt.alloc(), COUNTED)
 }

@@ -1,7 +1,8 @@
 //! Calls of a graph with transactions by their texts, and what they give as a text.
 ghost use Rattle.std.specs.Prelude.{◌≡◌, ◌<◌};
 
-use crate::rules::{NumberRules, PLACES, rank};
+use crate::calls::{due_text, key, watched};
+use crate::rules::{NumberRules, rank};
 use case_tables::{cells, rows};
 use rooms_val::{OutOfMemory, Steps};
 use signal_txn::{Since, Txn, TxnFault};
@@ -56,12 +57,44 @@ impl<L: Ledger> Nest<L> {
         Ok(format!(in alloc; "done")?)
     }
 
+    // How often the rules were asked since so many asks.
+    fn asks_since(&self, before: u64) -> u64 {
+        self.asked.get().saturating_sub(before)
+    }
+
     // The value of a key, and how often the rules were asked for it.
     fn get(&mut self, alloc: Global, key: u64) -> Result<String, Fail> {
         let before = self.asked.get();
         let value = *self.txn.get(alloc, &key, &mut self.steps)?;
-        let asks = self.asked.get().saturating_sub(before);
-        Ok(format!(in alloc; "{value} after {asks}")?)
+        Ok(format!(in alloc; "{value} after {}", self.asks_since(before))?)
+    }
+
+    // The same of a copy of the value.
+    fn copied(&mut self, alloc: Global, key: u64) -> Result<String, Fail> {
+        let before = self.asked.get();
+        let value = self.txn.copied(alloc, &key, &mut self.steps)?;
+        Ok(format!(in alloc; "{value} after {}", self.asks_since(before))?)
+    }
+
+    // What is due, and how often the rules were asked for it.
+    fn due(&mut self, alloc: Global) -> Result<String, Fail> {
+        if self.txn.depth() > 0 {
+            return Ok(format!(in alloc; "one is open")?);
+        }
+        let before = self.asked.get();
+        let due = self.txn.due(alloc, &mut self.steps)?;
+        due_text(alloc, &due, self.asks_since(before))
+    }
+
+    // The same in two calls, of which the second tells it.
+    fn tell(&mut self, alloc: Global) -> Result<String, Fail> {
+        if self.txn.depth() > 0 {
+            return Ok(format!(in alloc; "one is open")?);
+        }
+        let before = self.asked.get();
+        let news = self.txn.news(alloc, &mut self.steps)?;
+        let due = self.txn.tell(news);
+        due_text(alloc, &due, self.asks_since(before))
     }
 
     fn begin(&mut self, alloc: Global) -> Result<String, Fail> {
@@ -134,7 +167,11 @@ impl<L: Ledger> Nest<L> {
         match name {
             "set" => self.set(alloc, first.parse()?, second.parse()?),
             "set_each" => self.set_each(alloc, first.parse()?, second.parse()?),
-            "choice" => self.get(alloc, PLACES),
+            "get" => self.get(alloc, key(first)?),
+            "copied" => self.copied(alloc, key(first)?),
+            "watch" => watched(alloc, self.txn.watch(key(first)?)),
+            "due" => self.due(alloc),
+            "tell" => self.tell(alloc),
             "begin" => self.begin(alloc),
             "begin_often" => self.begin_often(alloc, first.parse()?),
             "commit" => self.commit(alloc),
