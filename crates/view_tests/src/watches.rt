@@ -75,8 +75,25 @@ told | 0:90 1:null
 due
 "#;
 
+// What is fresh is looked up, asked or told. The box hangs on 4,000 shapes, so that a store which ran its rules each time
+// wouldn't end in a test's time.
+const FRESH: &str = r#"
+page p
+frame f a0 page:p 0 0
+begin
+each 1000 4999 geo s@ a1 shape:f @ 0
+commit
+ask box shape:f | 0 0 5009 50
+each 1 100000 ask box shape:f | 0 0 5009 50
+watch box shape:f | 0
+told | 0:{"h":50,"w":5009,"x":0,"y":0}
+each 1 100000 told
+geo s a1 page:p 7 7
+each 1 100000 told
+"#;
+
 // What watches tell.
-const WATCHES: [Script; 4] = [
+const WATCHES: [Script; 5] = [
     Script {
         shows: "a watch is told once and where it changed",
         parts: &[GRID, TOLD],
@@ -92,6 +109,10 @@ const WATCHES: [Script; 4] = [
     Script {
         shows: "due tells what told would",
         parts: &[GRID, DUE],
+    },
+    Script {
+        shows: "what is fresh is looked up",
+        parts: &[FRESH],
     },
 ];
 
