@@ -18,6 +18,7 @@ fn written(alloc: Global, step: &str) -> Result<String, Fail> {
         "sync" => sync(alloc, rest),
         "get" => get(alloc, rest),
         "edit" => edit(alloc, rest),
+        "bulk" => bulk(alloc, rest),
         "watch" => watch(alloc, rest),
         "query" => query(alloc, rest),
         "times" => times(alloc, rest),
@@ -62,6 +63,25 @@ fn get(alloc: Global, rest: &str) -> Result<String, Fail> {
 fn edit(alloc: Global, rest: &str) -> Result<String, Fail> {
     let (client, diff) = cut(rest);
     Ok(format!(in alloc; r#"{{"client":{client},"diff":{diff},"do":"edit"}}"#)?)
+}
+
+// A client makes an edit of many parts, which are numbered from a number on.
+fn bulk(alloc: Global, rest: &str) -> Result<String, Fail> {
+    let (client, rest) = cut(rest);
+    let (first, rest) = cut(rest);
+    let (count, rest) = cut(rest);
+    let (front, part) = cut(rest);
+    let first = first.parse::<u64>()?;
+    let mut out = format!(in alloc; r#"{{"client":{client},"diff":{front}"#)?;
+    for place in 0..count.parse::<u64>()? {
+        if 0 < place {
+            out.push_str(",")?;
+        }
+        let number = format!(in alloc; "{}", first.saturating_add(place))?;
+        out.push_str(part.replace(alloc, "@", number.as_str())?.as_str())?;
+    }
+    out.push_str(r#"},"do":"edit"}"#)?;
+    Ok(out)
 }
 
 // A client watches a view.

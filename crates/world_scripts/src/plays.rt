@@ -5,7 +5,7 @@ ghost use Rattle.world_views.specs.Standing.{IsPlayable};
 
 use crate::lines::lines_of;
 use board_tables::expanded;
-use case_tables::{cells, rows};
+use case_tables::{cells, printed, rows};
 use fault_texts::step_fault_text;
 use rec_format::{Event, PrintedLine, RecordedEvent, print_line, read_header, read_line};
 use rooms_val::Steps;
@@ -65,8 +65,11 @@ fn difference_at(
     Ok(Some(format!(in alloc; "at {step}: {found}, and not {wanted}")?))
 }
 
-// What a world answers to the lines of a step.
+// What a world answers to the lines of a step, or what the peer has of which a step asks.
 fn answer(alloc: Global, world: &mut ViewedWorld, step: &str) -> Result<String, Fail> {
+    if let Some(client) = step.strip_prefix("peer ") {
+        return peer_text(alloc, world, client.parse::<u64>()?);
+    }
     let lines = lines_of(alloc, step)?;
     let mut out = String::new(alloc);
     for line in lines.as_str().lines() {
@@ -74,6 +77,19 @@ fn answer(alloc: Global, world: &mut ViewedWorld, step: &str) -> Result<String, 
         add(&mut out, text.as_str())?;
     }
     Ok(out)
+}
+
+// What the peer of a client has: the clock that it has reached, how much it owes, and its document.
+fn peer_text(alloc: Global, world: &ViewedWorld, client: u64) -> Result<String, Fail> {
+    let world = world.world();
+    if !world.has_client(client) {
+        return Ok(String::from_str(alloc, "no client")?);
+    }
+    let peer = world.peer(client);
+    let clock = peer.reached();
+    let owed = peer.owed();
+    let document = printed(alloc, &peer.document(alloc)?)?;
+    Ok(format!(in alloc; "{clock} owes {owed}: {}", document.as_str())?)
 }
 
 // Adds a text, if there is any, after what is there.
