@@ -123,8 +123,31 @@ get 1 1
 {"do":"end"} | {"clock":3,"doc":{"page:p":$P,"shape:a":$G(a,a0,5,50)},"end":true,"presence":{}}
 "#;
 
+// The peer of each client has what its client shows: its own patch until it is told of a later one.
+const PEERS: &str = r#"
+peer 0 | 1 owes 0: {"page:p":$P,"shape:a":$G(a,a0,0)}
+edit 0 {"shape:a":["patch",{"x":["put",5]}]}
+edit 1 {"shape:a":["patch",{"x":["put",7]}]}
+peer 0 | 1 owes 1: {"page:p":$P,"shape:a":$G(a,a0,5)}
+peer 1 | 1 owes 1: {"page:p":$P,"shape:a":$G(a,a0,7)}
+peer 2 | no client
+sync 0 0
+get 1 1
+peer 0 | 2 owes 0: {"page:p":$P,"shape:a":$G(a,a0,5)}
+peer 1 | 2 owes 1: {"page:p":$P,"shape:a":$G(a,a0,7)}
+sync 1 1
+peer 0 | 2 owes 0: {"page:p":$P,"shape:a":$G(a,a0,5)}
+peer 1 | 3 owes 0: {"page:p":$P,"shape:a":$G(a,a0,7)}
+get 0 0
+peer 0 | 3 owes 0: {"page:p":$P,"shape:a":$G(a,a0,7)}
+# A client of an older version has it as that version does.
+client 1
+open 2 2
+peer 2 | 3 owes 0: {"page:p":$P,"shape:a":$G1(a,a0,7)}
+"#;
+
 // Each conflict.
-const CONFLICTS: [Script; 6] = [
+const CONFLICTS: [Script; 7] = [
     Script {
         shows: "shows its own of two",
         header: HEADER,
@@ -154,6 +177,11 @@ const CONFLICTS: [Script; 6] = [
         shows: "keeps patches of two fields",
         header: HEADER,
         parts: &[BASE, FIELDS],
+    },
+    Script {
+        shows: "has each client's own in its peer",
+        header: HEADER,
+        parts: &[BASE, PEERS],
     },
 ];
 

@@ -204,8 +204,35 @@ get 1 1
 {"do":"end"} | {"clock":3,"doc":{"page:p":$P,"shape:a":$G(a,a0,5,50)},"end":true,"presence":{}}
 "#;
 
+// Of 3,001 removals the 301 oldest are forgotten. A session that is three entries behind goes on, though its entries began
+// before what is remembered, and hears of all; a client that comes back from before begins anew.
+const FORGOTTEN: &str = r#"
+client 3
+client 3
+client 3
+open 0 0
+open 1 1
+open 2 2
+bulk 0 1000 3001 {"page:p":["put",$P], "shape:@":["put",$G(@,a1,0)]
+sync 0 0
+get 2 2
+query 2 shape ["gt","x",0] | {"client":2,"ids":[],"query":true}
+query 2 shape ["eq","id","shape:1300"] | {"client":2,"ids":["shape:1300"],"query":true}
+{"client":2,"do":"cut"}
+bulk 0 1000 301 { "shape:@":["remove"]
+sync 0 0
+bulk 0 1301 2700 { "shape:@":["remove"]
+{"do":"handle","session":0}
+{"client":1,"do":"show"} | {"clock":0,"doc":{},"others":{},"owed":0,"show":1}
+get 1 1
+{"client":1,"do":"show"} | {"clock":3,"doc":{"page:p":$P},"others":{},"owed":0,"show":1}
+open 2 3
+{"client":2,"do":"show"} | {"clock":3,"doc":{"page:p":$P},"others":{},"owed":0,"show":2}
+{"do":"end"} | {"clock":3,"doc":{"page:p":$P},"end":true,"presence":{}}
+"#;
+
 // What connections come to.
-const CONNECTIONS: [Script; 12] = [
+const CONNECTIONS: [Script; 13] = [
     Script {
         shows: "shows that nothing happened",
         header: HEADER,
@@ -265,6 +292,11 @@ const CONNECTIONS: [Script; 12] = [
         shows: "keeps edits over a cut",
         header: HEADER,
         parts: &[BASE, CUT],
+    },
+    Script {
+        shows: "tells a session of removals that are forgotten",
+        header: HEADER,
+        parts: &[FORGOTTEN],
     },
 ];
 
