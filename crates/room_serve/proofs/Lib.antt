@@ -1,0 +1,5 @@
+pub mod AccountLemmas
+pub mod CourseLemmas
+pub mod JoiningLemmas
+pub mod TurnLemmas
+pub mod VisitLemmas
