@@ -27,6 +27,7 @@ pub mod script;
 pub mod sink;
 pub mod source;
 pub mod standard;
+pub mod writing;
 
 /// A read or a write failed, and the count of faults of what was called rose.
 #[derive(Clone, Copy, Debug, PartialEq, Eq, Error)]
