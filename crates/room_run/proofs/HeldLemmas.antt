@@ -151,6 +151,13 @@ module _ (schemas : Schemas) (last : ℕ) where
         let here = there number is in
         goes room (Drain number None) state inside place (nothing_happens schemas state number here.0 here.1 none) carries.stands refl (omega arith) (omega arith)
 
+    -- and once that is noted, there is still nothing
+    pub still_nothing : (number : ℕ) → IsInside number pen → next_for schemas state number ≡ None → next_for schemas (state_of schemas last (pen ++ Drain number None ∷ [])) number ≡ None
+    still_nothing number is none =
+        let here = there number is in
+        let h = goes_on schemas last pen (Drain number None) state carries.legal (nothing_happens schemas state number here.0 here.1 none) in
+        subst (λ s. next_for schemas s number ≡ None) (sym h.1) none
+
     -- who is inside is counted
     pub someone : (number : ℕ) → IsInside number pen → 0 < inside
     someone number is =

@@ -5,3 +5,7 @@ pub mod StepLemmas
 pub mod HeldLemmas
 pub mod TurnLemmas
 pub mod CloseLemmas
+mod CrossingValueLemmas
+mod CrossingMessageLemmas
+mod CrossingRoomLemmas
+pub mod CrossingLemmas

@@ -1,12 +1,14 @@
 //! The calls of a running room.
-ghost use Rattle.std.specs.Prelude.{◌≡◌, ℕ, List, [], ◌∷◌, Some, None, IfOk, IfErr, OnErr};
+ghost use Rattle.std.specs.Prelude.{◌≡◌, ℕ, List, [], ◌∷◌, Some, None, IfOk, IfErr, OnOk, OnErr};
 ghost use Rattle.room_model.specs.declared.handled.Handled.{Handled};
 ghost use Rattle.room_events.specs.declared.room_event.RoomEvent.{RoomEvent};
 ghost use Rattle.room_events.specs.declared.room_event.RoomEvent.TheVariants.{Message, Leave};
 ghost use Rattle.room_run.specs.Calls.{Acts, IsEntered, HasSeenFull, IsBegun};
 ghost use Rattle.room_run.specs.Calls.{given, given_all, given_idle};
+ghost use Rattle.room_run.specs.Held.{IsDrained};
 ghost use Rattle.room_run.specs.Passes.{room_of, view_of, room_of_gone, view_of_gone, IfFull};
 ghost use Rattle.room_run.specs.Rooms.{id_of, opening_of};
+ghost use Rattle.room_run.specs.Rule.{story};
 ghost use Rattle.sync_msgs.specs.declared.out.Out.{Out};
 
 use crate::passes::{Gone, Pass, PassFault};
@@ -77,7 +79,8 @@ impl RunningRoom {
     }
 
     /// In one turn, gives the pass's session all that there is for it: what was given, in order. If there is nothing, nothing
-    /// happens. It may wait for the turn. It costs what `Room::drain` costs, and a copy of what is given.
+    /// happens. After what the pass has seen then, the room has nothing more for the session. It may wait for the turn. It costs
+    /// what `Room::drain` costs, and a copy of what is given.
     ///
     /// # Errors
     ///
@@ -89,6 +92,8 @@ impl RunningRoom {
         ensures ok { IfOk result (λ outs.
             Acts (opening_of self.now) pass.old.session (view_of pass.old) (view_of pass.new)
             (given_idle pass.old.session outs.items)) }
+        ensures drained { OnOk result (IsDrained pass.old.session
+            (story (opening_of self.now) (view_of pass.new).seen)) }
         ensures err { OnErr result ((lost : List Out)
             × Acts (opening_of self.now) pass.old.session (view_of pass.old) (view_of pass.new)
             (given pass.old.session lost)) }

@@ -145,6 +145,7 @@ impl Held {
         requires inside { IsInside number self.old.pen }
         requires drained { IsDrained number self.old }
         ensures ok { OnOk result (self.new ≡ longer self.old (Drain number None)) }
+        ensures drained { OnOk result (IsDrained number self.new) }
         ensures err { OnErr result (self.new ≡ self.old) }
     {
         self.pen.reserve(self.inside + 1)?;

@@ -11,6 +11,7 @@
 
 mod calls;
 mod close;
+mod crossing;
 mod held;
 mod one_call;
 mod passes;
@@ -20,5 +21,6 @@ mod turns;
 pub mod views;
 
 pub use close::Closed;
+pub use crossing::may_cross_threads;
 pub use passes::{Gone, Pass, PassFault};
 pub use running::RunningRoom;

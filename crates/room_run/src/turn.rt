@@ -133,6 +133,7 @@ impl RunningRoom {
         ensures own { seat.new.table_id ≡ seat.old.table_id }
         ensures ready { IsReady number seat.new.me result.0 }
         ensures ok { OnOk result.1 (Added seat.old.me.0 seat.new.me.0 (Drain number None ∷ [])) }
+        ensures drained { OnOk result.1 (IsDrained number result.0) }
         ensures err { OnErr result.1 (Added seat.old.me.0 seat.new.me.0 []) }
     {
         match held.note_nothing(number) {
@@ -210,6 +211,7 @@ impl RunningRoom {
         ensures ready { IsReady number seat.new.me result.0 }
         ensures ok { IfOk result.1 (λ outs. Added seat.old.me.0 seat.new.me.0
             (given_idle number outs.items)) }
+        ensures drained { OnOk result.1 (IsDrained number result.0) }
         ensures err { OnErr result.1 ((lost : List Out)
             × Added seat.old.me.0 seat.new.me.0 (given number lost)) }
     {
