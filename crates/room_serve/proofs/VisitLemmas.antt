@@ -5,6 +5,7 @@ use Rattle.link_texts.specs.Sending.{counted}
 use Rattle.link_texts.specs.declared.join.Join.{Join}
 use Rattle.room_events.specs.declared.room_event.RoomEvent.TheVariants.{Enter, Leave}
 use Rattle.room_link.specs.Exchange.{Exchange, Arrival}
+use Rattle.room_link.specs.declared.passing.Outgoing.{Outgoing}
 use Rattle.room_run.specs.Calls.{HasSeenFull}
 use Rattle.room_run.specs.Passes.{room_of_gone, view_of, view_of_gone, IfFull}
 use Rattle.room_run.specs.Rooms.{id_of, opening_of}
@@ -16,13 +17,17 @@ use Rattle.room_serve.proofs.CourseLemmas.{texts_append}
 use Rattle.room_serve.specs.Accounts.{IsOpen, nothing_sent, texts_after}
 use Rattle.room_serve.specs.Courses.{Course}
 use Rattle.room_serve.specs.Joining.{Joins}
-use Rattle.room_serve.specs.Reports.{account_of, IsService, IsServed, IsStay, IsVisit, Serves, WasIn}
+use Rattle.room_serve.specs.Reports.{account_of, IsService, IsServed, IsStay, IsVisit, ServesIn, WasIn, WasThere}
 use Rattle.room_serve.specs.Turns.{Converses, Leaves}
 use Rattle.room_serve.specs.Visits.{TurnsAway, Visits, full_gone}
 use Rattle.room_serve.specs.declared.account.Account.{Account}
 use Rattle.room_serve.specs.declared.conversation.Conversation.{Conversation}
 use Rattle.room_serve.specs.declared.report.Report.{Report}
 use Rattle.wire_text.specs.Feeding.{empty}
+
+-- how who is gone was in a room
+abbrev StayOf : RunningRoom → Gone → Option ℕ → Bool → Account → List Arrival → List Outgoing → Type 0
+StayOf room gone = IsStay (HasSeenFull (opening_of room) (view_of_gone gone)) (λ number. (view_of_gone gone).mine)
 
 -- a session entered, was served, and left
 pub served : (room : RunningRoom) (readonly : Bool) (before after : Conversation) (gone : Gone) (report : Report) (o e : Exchange)
@@ -38,14 +43,14 @@ served room readonly before after gone report o e entered fresh left own is note
       mine_is = left ∙ ap (λ l. l ++ Leave n ∷ []) (c.goes.mine ∙ ap (λ l. l ++ c.goes.events) entered);
       course = subst (λ a. Course n a after.assembler c.arrivals c.goes.events c.goes.put after.account) fresh c.goes.course;
     } in
-    let visit : IsVisit room readonly (Some gone) after.account c.arrivals c.goes.put =
-    subst (λ s. IsStay room readonly gone s after.account c.arrivals c.goes.put) (sym own) stay in record {
+    let visit : IsVisit room (Some gone) readonly after.account c.arrivals c.goes.put =
+    subst (λ s. StayOf room gone s readonly after.account c.arrivals c.goes.put) (sym own) stay in record {
       arrivals = c.arrivals;
       put = c.goes.put;
       taken = c.goes.taken;
       out = c.goes.out;
-      visit = subst (λ g. IsVisit room readonly g (account_of report) c.arrivals c.goes.put) (sym is)
-          (subst (λ a. IsVisit room readonly (Some gone) a c.arrivals c.goes.put) (sym noted) visit);
+      visit = subst (λ g. IsVisit room g readonly (account_of report) c.arrivals c.goes.put) (sym is)
+          (subst (λ a. IsVisit room (Some gone) readonly a c.arrivals c.goes.put) (sym noted) visit);
       texts = ap (λ a. a.texts) noted ∙ c.goes.texts;
       sent = ap (λ a. a.sent) noted ∙ c.goes.sent;
       whole = λ still. whole (subst IsOpen noted still);
@@ -61,16 +66,16 @@ turned_away room readonly before gone report o e full none is t =
       put = t.put;
       taken = ap (λ x. x.left) (sym t.out);
       out = ap (λ x. x.sent) t.out;
-      visit = subst (λ g. IsVisit room readonly g (account_of report) [] t.put) (sym is) (by gone refl);
+      visit = subst (λ g. IsVisit room g readonly (account_of report) [] t.put) (sym is) (by gone refl);
       texts = t.texts;
       sent = t.sent;
       whole = λ still. absurd (t.shut still);
     }
   where
-    by : (g : Option Gone) → gone ≡ g → IsVisit room readonly g (account_of report) [] t.put
-    by None same = (none same, t.wire, refl, t.none same)
+    by : (g : Option Gone) → gone ≡ g → IsVisit room g readonly (account_of report) [] t.put
+    by None same = record { refused = none same; wire = t.wire; nothing = refl; silent = t.none same }
     by (Some one) same =
-        subst (λ s. IsStay room readonly one s (account_of report) [] t.put) (sym (full one same).0) (record {
+        subst (λ s. StayOf room one s readonly (account_of report) [] t.put) (sym (full one same).0) (record {
           full = (full one same).1;
           nothing = refl;
           wire = t.wire;
@@ -80,19 +85,17 @@ turned_away room readonly before gone report o e full none is t =
 -- a link named a room, and was there
 pub joined_then : (rooms : List RunningRoom) (room : RunningRoom) (join : Join) (account : Account) (report : Report) (o m e : Exchange)
     → slice_get rooms join.room ≡ Some room → report.room ≡ Some join.room
-    → Joins (length rooms) (Some join) account o m → Visits room join.readonly account report m e → Serves rooms report o e
+    → Joins (length rooms) (Some join) account o m → Visits room join.readonly account report m e → ServesIn rooms report o e
 joined_then rooms room join account report o m e there named j v =
     let arrivals : List Arrival = j.arrivals ++ v.arrivals in
-    let service : IsService rooms (Some join.room) report.gone (account_of report) arrivals v.put = record {
+    let service : IsService (length rooms) (WasThere rooms report.gone) (Some join.room) (account_of report) arrivals v.put = record {
       bytes = j.named.0;
       join = join;
       rest = v.arrivals;
-      room = room;
       first = ap (λ l. l ++ v.arrivals) j.named.1;
       names = j.named.2;
       is = refl;
-      there = there;
-      visit = v.visit;
+      visit = (room, there, v.visit);
     } in record {
       idles = j.idles;
       arrivals = arrivals;
@@ -101,7 +104,7 @@ joined_then rooms room join account report o m e there named j v =
       taken = j.taken ∙ ap (λ l. (j.idles ++ j.arrivals) ++ l) v.taken ∙ sym (append_assoc (j.idles ++ j.arrivals) v.arrivals e.left)
           ∙ ap (λ l. l ++ e.left) (append_assoc j.idles j.arrivals v.arrivals);
       out = v.out ∙ ap (λ l. l ++ v.put) (j.out ∙ ap (λ l. o.sent ++ l) j.named.3 ∙ append-nil o.sent);
-      service = subst (λ n. IsService rooms n report.gone (account_of report) arrivals v.put) (sym named) service;
+      service = subst (λ n. IsService (length rooms) (WasThere rooms report.gone) n (account_of report) arrivals v.put) (sym named) service;
       texts = v.texts ∙ ap (λ n. texts_after n v.arrivals) j.texts ∙ sym (texts_append 0 j.arrivals v.arrivals);
       sent = v.sent ∙ ap (λ s. counted s v.put) (j.sent ∙ ap (counted nothing_sent) j.named.3);
       whole = v.whole;
@@ -109,7 +112,7 @@ joined_then rooms room join account report o m e there named j v =
 
 -- a link named no room
 pub unjoined_then : (rooms : List RunningRoom) (account : Account) (report : Report) (o e : Exchange) → report.room ≡ None → account_of report ≡ account
-    → Joins (length rooms) None account o e → Serves rooms report o e
+    → Joins (length rooms) None account o e → ServesIn rooms report o e
 unjoined_then rooms account report o e none noted j = record {
   idles = j.idles;
   arrivals = j.arrivals;
@@ -117,8 +120,8 @@ unjoined_then rooms account report o e none noted j = record {
   quiet = j.quiet;
   taken = j.taken;
   out = j.out;
-  service = subst (λ n. IsService rooms n report.gone (account_of report) j.arrivals j.put) (sym none)
-      (subst (λ a. IsService rooms None report.gone a j.arrivals j.put) (sym noted) j.named);
+  service = subst (λ n. IsService (length rooms) (WasThere rooms report.gone) n (account_of report) j.arrivals j.put) (sym none)
+      (subst (λ a. IsService (length rooms) (WasThere rooms report.gone) None a j.arrivals j.put) (sym noted) j.named);
   texts = ap (λ a. a.texts) noted ∙ j.texts;
   sent = ap (λ a. a.sent) noted ∙ j.sent;
   whole = λ still. j.whole refl (subst IsOpen noted still);

@@ -37,7 +37,7 @@ texts_after n [] = n
 texts_after n (text bytes ∷ arrivals) = texts_after (count_up n) arrivals
 texts_after n (idle ∷ arrivals) = texts_after n arrivals
 
--- a fault is noted only if there was one before, or the count of the link's faults rose
+-- a count of faults doesn't fall, and a fault is noted only if one was before or the count rose
 pub record IsBlamed (before after : Bool) (old new : ℕ) : Type 0 where
   pub stays : old ≤ new
   pub rose : after ≡ true → (before ≡ true) ⊎ (old < new)

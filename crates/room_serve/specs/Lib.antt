@@ -3,5 +3,7 @@ pub mod Answering
 pub mod Courses
 pub mod Joining
 pub mod Reports
+pub mod Stations
+pub mod Tallies
 pub mod Turns
 pub mod Visits

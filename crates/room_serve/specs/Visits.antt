@@ -25,7 +25,7 @@ pub record Visits (room : RunningRoom) (readonly : Bool) (before : Account) (rep
   pub put : List Outgoing
   pub taken : old.left ≡ arrivals ++ new.left
   pub out : new.sent ≡ old.sent ++ put
-  pub visit : IsVisit room readonly report.gone (account_of report) arrivals put
+  pub visit : IsVisit room report.gone readonly (account_of report) arrivals put
   pub texts : report.texts ≡ texts_after before.texts arrivals
   pub sent : (account_of report).sent ≡ counted before.sent put
   pub whole : IsOpen (account_of report) → new.left ≡ []

@@ -7,7 +7,7 @@ ghost use Rattle.room_run.specs.Passes.{view_of};
 ghost use Rattle.room_run.specs.Passes as passes;
 ghost use Rattle.room_run.specs.Rooms.{id_of, opening_of};
 ghost use Rattle.room_serve.specs.Accounts.{IsOpen, IsBlamed};
-ghost use Rattle.room_serve.specs.Reports.{Serves, WasIn, session_of};
+ghost use Rattle.room_serve.specs.Reports.{IsReport, ServesIn, session_of};
 ghost use Rattle.room_serve.specs.Visits.{Visits, TurnsAway, full_gone};
 
 use crate::account::Account;
@@ -40,11 +40,9 @@ pub fn serve_link<R: Wait, K: Link, G: Gate>(
     gate: &G,
 ) -> Report
     requires few { length rooms.now < 2 ^ 32 }
-    ensures gone { IfSome result.gone (WasIn rooms.now result.room) }
-    ensures session { result.session ≡ session_of result.gone }
-    ensures none { result.gone ≡ None → (result.room ≡ None) ⊎ (result.memory ≡ true) }
+    ensures report { IsReport rooms.now result }
     ensures faults { IsBlamed false result.fault (K.faults link.old) (K.faults link.new) }
-    ensures served { Tells (Serves rooms.now result) (K.told link.old) (K.told link.new) }
+    ensures served { Tells (ServesIn rooms.now result) (K.told link.old) (K.told link.new) }
 {
     let mut account = Account::new();
     let Some(join) = wait_for_join(rt, alloc, rooms.len() as u32, link, &mut account) else {
