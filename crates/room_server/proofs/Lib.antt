@@ -1,0 +1,5 @@
+mod ApartLemmas
+mod EndLemmas
+mod GatherLemmas
+mod HostingLemmas
+mod WritingLemmas

@@ -1,0 +1,5 @@
+pub mod Closing
+pub mod Hosted
+pub mod Lines
+pub mod Opened
+pub mod Outcomes
