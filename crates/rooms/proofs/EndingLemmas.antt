@@ -1,7 +1,7 @@
 -- What the end of a replay says of its status.
 use Rattle.std.proofs.Common.{◌≡◌, ℕ, ◌⊎◌, List, Bool, Option, None, Some, Ok, Err, refl, subst, inl, inr, arith}
 use Rattle.rooms.specs.Runs.{IsStatus, IsReplayStatus, IsMakeStatus, Makes, MakesFront, WritesAll, Prints, status_code}
-use Rattle.rooms.specs.declared.job.Job.TheVariants.{Replay, Make}
+use Rattle.rooms.specs.declared.job.Job.TheVariants.{Replay, Make, Serve}
 use Rattle.rooms.specs.declared.play.End.{End}
 use Rattle.rooms.specs.declared.play.End.TheVariants.{Done, Refused}
 use Rattle.rooms.specs.declared.play.Stop.{Stop}
@@ -61,9 +61,9 @@ replay_is_asked s (inr (inr (inr (inr is)))) two = absurd (omega (arith, is, two
 
 -- the statuses of a made recording are those of the program, and neither 2, 3 nor 4
 pub make_status : (s : ℕ) → IsMakeStatus s → IsStatus s
-make_status s (inl is) = inr (inl is)
-make_status s (inr (inl is)) = inr (inr (inr (inr (inl is))))
-make_status s (inr (inr is)) = inr (inr (inr (inr (inr is))))
+make_status s (inl is) = inr (inr (inl is))
+make_status s (inr (inl is)) = inr (inr (inr (inr (inr (inl is)))))
+make_status s (inr (inr is)) = inr (inr (inr (inr (inr (inr is)))))
 
 pub make_is_asked : (s : ℕ) → IsMakeStatus s → s ≡ 2 → ⊥
 make_is_asked s (inl is) two = absurd (omega (arith, is, two))
@@ -99,3 +99,14 @@ unmade_as a b m n p q old new is made =
 
 pub not_both : (trace : Bool) (seed size : ℕ) (print : Bool) → Some (Replay trace) ≡ Some (Make seed size print) → ⊥
 not_both trace seed size print is = cc
+
+-- nor do they ask for a replay and a server, or a recording and a server
+pub not_replayed : (trace : Bool) (port workers rooms links : ℕ) → Some (Replay trace) ≡ Some (Serve port workers rooms links) → ⊥
+not_replayed trace port workers rooms links is = cc
+
+pub not_made : (seed size : ℕ) (print : Bool) (port workers rooms links : ℕ) → Some (Make seed size print) ≡ Some (Serve port workers rooms links) → ⊥
+not_made seed size print port workers rooms links is = cc
+
+-- how many rooms a server has
+pub same_rooms : (port workers rooms links p w r l : ℕ) → Some (Serve port workers rooms links) ≡ Some (Serve p w r l) → rooms ≡ r
+same_rooms port workers rooms links p w r l is = cc

@@ -3,12 +3,16 @@ use Rattle.std.specs.Prelude.{◌≡◌, ◌≤◌, ℕ, ◌⊎◌, List, length
 use Rattle.std.specs.Io.KnownBytes.{Consumes}
 use Rattle.recording_lines.specs.declared.fault.ReadFault.{ReadFault}
 use Rattle.recording_lines.specs.declared.fault.ReadFault.TheVariants as read
+use Rattle.room_link.specs.Exchange.{Exchange}
 use Rattle.room_link.specs.Held.{Extends}
+use Rattle.room_link.specs.Worker.{Worker}
 use Rattle.rooms.specs.Made.{IsMade, IsMadeFront}
 use Rattle.rooms.specs.Replay.{Written, Replays, ReplaysFront}
 use Rattle.rooms.specs.Replies.{Reads}
 use Rattle.rooms.specs.declared.job.Job.{Job}
-use Rattle.rooms.specs.declared.job.Job.TheVariants.{Replay, Make}
+use Rattle.room_server.specs.Outcomes.{IsServeStatus, IsOutcome}
+use Rattle.room_server.specs.declared.job.Served.{Served}
+use Rattle.rooms.specs.declared.job.Job.TheVariants.{Replay, Make, Serve}
 use Rattle.rooms.specs.declared.play.End.{End}
 use Rattle.rooms.specs.declared.play.End.TheVariants.{Done, Refused}
 use Rattle.rooms.specs.declared.play.Stop.{Stop}
@@ -33,7 +37,7 @@ IsMakeStatus status = (status ≡ 0) ⊎ (status ≡ 5) ⊎ (status ≡ 6)
 
 -- the statuses with which the program ends
 abbrev pub IsStatus : ℕ → Type 0
-IsStatus status = (status ≡ 2) ⊎ (status ≡ 0) ⊎ (status ≡ 3) ⊎ (status ≡ 4) ⊎ (status ≡ 5) ⊎ (status ≡ 6)
+IsStatus status = (status ≡ 2) ⊎ (status ≡ 7) ⊎ IsReplayStatus status
 
 -- the status of a recording that is read whole: 0 where it is read to its `end` line, 3 where it is refused
 abbrev pub status_of : Written → ℕ
@@ -82,3 +86,12 @@ abbrev pub IsStatusOf : Option Job → ℕ → Type 0
 IsStatusOf None status = status ≡ 2
 IsStatusOf (Some (Replay trace)) status = IsReplayStatus status
 IsStatusOf (Some (Make seed size print)) status = IsMakeStatus status
+IsStatusOf (Some (Serve port workers rooms links)) status = IsServeStatus status
+
+-- a server answers so: there is an answer with this status that tells what was served, written and closed
+module _ {K A : Type 0} (link_faults : K → ℕ) (link_told : K → Option Exchange)
+    (worker_faults : A → ℕ) (worker_told : A → Option (Worker K)) where
+  pub record Serves (rooms : ℕ) (before after : List A) (old new : Option (List ℕ)) (faults_old faults_new : ℕ) (status : ℕ) : Type 0 where
+    pub served : Served
+    pub is : served.status ≡ status
+    pub outcome : IsOutcome link_faults link_told worker_faults worker_told rooms before after old new faults_old faults_new served

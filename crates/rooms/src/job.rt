@@ -1,6 +1,6 @@
 //! What the words of the command line ask for.
-ghost use Rattle.std.specs.Prelude.{◌≡◌, string_bytes, map};
-ghost use Rattle.rooms.specs.Jobs.{job_named, make_named};
+ghost use Rattle.std.specs.Prelude.{◌≡◌, string_bytes, map, IfSome};
+ghost use Rattle.rooms.specs.Jobs.{job_named, make_named, serve_named, HasRooms};
 
 use crate::numbers::number_between;
 
@@ -8,19 +8,46 @@ use crate::numbers::number_between;
 #[derive(Clone, Copy, Debug, PartialEq, Eq)]
 pub enum Job {
     /// The recording in the source is replayed; with `trace` its messages are printed too.
-    Replay { trace: bool },
+    Replay {
+        trace: bool,
+    },
     /// A recording of so many draws, 1 to 100,000, is made by a seed and stepped; with `print` it is
     /// printed, and else summed up.
-    Make { seed: u64, size: u32, print: bool },
+    Make {
+        seed: u64,
+        size: u32,
+        print: bool,
+    },
+    /// So many rooms, 1 to 16, are served on a port, 1 to 65,535, by so many workers, 1 to 16, each for so many links, 1
+    /// to 1,000,000.
+    Serve {
+        port: u16,
+        workers: u32,
+        rooms: u32,
+        links: u32,
+    },
 }
 
 /// The most draws of a made recording.
 pub const MOST_DRAWS: u32 = 100_000;
 
+/// The greatest port.
+pub const MOST_PORT: u16 = 65_535;
+
+/// The most workers of a server.
+pub const MOST_WORKERS: u32 = 16;
+
+/// The most rooms of a server.
+pub const MOST_ROOMS: u32 = 16;
+
+/// The most links of a worker.
+pub const MOST_LINKS: u32 = 1_000_000;
+
 /// The job that the words ask for, without the program's name; none where they are in no row of the
 /// usage.
 pub fn job_of(words: &[String]) -> Option<Job>
-    ensures { result ≡ job_named (map string_bytes words.now) }
+    ensures job { result ≡ job_named (map string_bytes words.now) }
+    ensures rooms { IfSome result HasRooms }
 {
     match words {
         [word] => if word.as_str() == "replay" {
@@ -43,13 +70,24 @@ pub fn job_of(words: &[String]) -> Option<Job>
         } else {
             None
         },
+        [word, port, workers, rooms, links] => if word.as_str() == "serve" {
+            serve_of(
+                port.as_str(),
+                workers.as_str(),
+                rooms.as_str(),
+                links.as_str(),
+            )
+        } else {
+            None
+        },
         _ => None,
     }
 }
 
 // The job that a seed and a size ask for.
 fn make_of(seed: &str, size: &str, print: bool) -> Option<Job>
-    ensures { result ≡ make_named seed.now size.now print }
+    ensures job { result ≡ make_named seed.now size.now print }
+    ensures rooms { IfSome result HasRooms }
 {
     let seed = number_between(seed, 0, u64::MAX)?;
     let size = number_between(size, 1, MOST_DRAWS as u64)?;
@@ -57,5 +95,22 @@ fn make_of(seed: &str, size: &str, print: bool) -> Option<Job>
         seed,
         size: size as u32,
         print,
+    })
+}
+
+// The job that the numbers of a server ask for.
+fn serve_of(port: &str, workers: &str, rooms: &str, links: &str) -> Option<Job>
+    ensures job { result ≡ serve_named port.now workers.now rooms.now links.now }
+    ensures rooms { IfSome result HasRooms }
+{
+    let port = number_between(port, 1, MOST_PORT as u64)?;
+    let workers = number_between(workers, 1, MOST_WORKERS as u64)?;
+    let rooms = number_between(rooms, 1, MOST_ROOMS as u64)?;
+    let links = number_between(links, 1, MOST_LINKS as u64)?;
+    Some(Job::Serve {
+        port: port as u16,
+        workers: workers as u32,
+        rooms: rooms as u32,
+        links: links as u32,
     })
 }

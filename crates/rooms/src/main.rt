@@ -1,11 +1,12 @@
-//! The program `rooms`: it replays recordings of clients and a room, and makes them.
+//! The program `rooms`: it replays recordings of clients and a room, makes them, and serves rooms to clients.
 //!
 //! `run` is the top call; its clauses say what is written, and when each status comes. A recording's
 //! lines are read one by one (`recording_lines`) and taken (`replay`): as the header, or as an event
 //! of `rec_format` that happens in a `ViewedWorld` of `world_views`. What a line prints is written
 //! (`play`, `texts`, `writing`) before the source is read on. What a recording writes is defined in
 //! `specs/`. A made recording's events come from `load_maker`; nobody watches in it, and they happen in
-//! a `World` of `sync_world` (`make`, `making`).
+//! a `World` of `sync_world` (`make`, `making`). Rooms are served by `room_server`, over the links of
+//! `socket_link` (`serving`).
 #![tactic(auto)]
 
 mod job;
@@ -16,30 +17,31 @@ mod numbers;
 mod play;
 mod replay;
 mod run;
+mod serving;
 #[cfg(test)]
 mod tests;
 mod texts;
 mod words;
 mod writing;
 
-ghost use Rattle.std.specs.Prelude.{◌≡◌, ◌<◌, ◌↔◌, ◌⊎◌, string_bytes, map, IfOk, OnOk, IfSome, MatchOption, None};
+ghost use Rattle.std.specs.Prelude.{◌≡◌, ◌↔◌, string_bytes, map, IfOk, OnOk, IfSome, MatchOption, None};
 ghost use Rattle.std.specs.Io.KnownBytes.{Appends};
 ghost use Rattle.rooms.specs.Jobs.{job_named};
 ghost use Rattle.rooms.specs.Runs.{IsStatus};
 ghost use Rattle.rooms.specs.Words.{text_asked};
 
 use crate::words::{HELP, VERSION, asked, tell, words_of};
-use room_link::standard::{StandardInput, StandardOutput};
-use rooms_val::Steps;
 use std::io;
 use std::io::Write;
 use std::marker::Brand;
 use std::process::ExitCode;
-use std::sync::ledger::{Blank, Ledger};
+use std::sync::Wait;
+use std::sync::ledger::Blank;
+use std::thread::Threads;
 
 fn main(rt: HostRuntime) -> io::Result<ExitCode> {
     let status = match words_of(&rt) {
-        Ok(words) => answered(&rt, words.as_slice(), &mut io::writer(&rt))?,
+        Ok(words) => answered(&rt, &rt, words.as_slice(), &mut io::writer(&rt))?,
         // A word that isn't UTF-8 is in no row.
         Err(error) => if error.kind() == io::ErrorKind::InvalidData {
             run::USAGE
@@ -52,7 +54,12 @@ fn main(rt: HostRuntime) -> io::Result<ExitCode> {
 }
 
 /// Does what the words ask for, and answers the status. The help and the version go to `output`.
-fn answered<W: Write>(rt: &HostRuntime, words: &[String], output: &mut W) -> io::Result<u8>
+fn answered<R: Threads + Wait + Sync, W: Write>(
+    host: &HostRuntime,
+    rt: &R,
+    words: &[String],
+    output: &mut W,
+) -> io::Result<u8>
     // Where the one word asks for the help or the version, that is written; of other words nothing is written here.
     ensures written { OnOk result (IfSome (text_asked HELP.now VERSION.now (map string_bytes words.now))
         (Appends (W.contents output.old) (W.contents output.new))) }
@@ -67,19 +74,5 @@ fn answered<W: Write>(rt: &HostRuntime, words: &[String], output: &mut W) -> io:
         output.write_all(text.as_bytes())?;
         return Ok(0);
     }
-    Ok(started::<Brand>(rt, words, Blank::new(1)))
-}
-
-/// Runs over standard input and output, with a counter of steps that nobody reads.
-fn started<L: Ledger>(rt: &HostRuntime, words: &[String], blank: Blank) -> u8
-    requires name { blank.name ≡ L.name }
-    requires parts { blank.parts ≡ L.parts }
-    requires some { 0 < blank.parts }
-    ensures usage { (result ≡ 2) ↔ (job_named (map string_bytes words.now) ≡ None) }
-    ensures known { IsStatus result }
-{
-    let mut source = StandardInput::new(rt.reader());
-    let mut sink = StandardOutput::new(io::writer(rt));
-    let mut steps = Steps::<L>::new(blank);
-    run::run(rt.alloc(), words, &mut source, &mut sink, &mut steps)
+    Ok(serving::started::<R, Brand>(host, rt, words, Blank::new(1)))
 }

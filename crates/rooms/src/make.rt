@@ -19,10 +19,10 @@ ghost use Rattle.rooms.specs.declared.play.Stop.TheVariants as stop;
 
 use crate::making::{Making, event_line};
 use crate::play::{Stop, status};
-use crate::writing::write_all;
 use load_maker::Maker;
 use rec_format::{Event, OutLine};
 use room_link::sink::Sink;
+use room_link::writing::write_all;
 use rooms_val::{Mem, OutOfMemory, Steps, Val};
 use std::alloc::Global;
 use std::sync::ledger::Ledger;

@@ -12,9 +12,9 @@ ghost use Rattle.rooms.specs.Making.{IsMaking, HasPlace, IsReady, AreReady, Adds
 ghost use Rattle.rooms.specs.declared.play.Stop.TheVariants as stop;
 
 use crate::play::Stop;
-use crate::writing::write_all;
 use rec_format::{Event, print_event};
 use room_link::sink::Sink;
+use room_link::writing::write_all;
 use room_model::fault::StepFault;
 use rooms_val::{Mem, OutOfMemory, Steps};
 use side_effects::EditFault;

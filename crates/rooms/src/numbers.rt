@@ -1,12 +1,13 @@
 //! The numbers that the words of the command line write.
-ghost use Rattle.std.specs.Prelude.{◌≡◌};
+ghost use Rattle.std.specs.Prelude.{◌≡◌, ◌≤◌, IfSome};
 ghost use Rattle.std.specs.List.{list_all};
 ghost use Rattle.rooms.specs.Numbers.{is_digit, is_decimal, number_between};
 
 /// The number that a word writes by decimal digits, without sign or leading zeros, if it is within
 /// bounds.
 pub(crate) fn number_between(word: &str, least: u64, most: u64) -> Option<u64>
-    ensures { result ≡ number_between least most word.now }
+    ensures number { result ≡ number_between least most word.now }
+    ensures within { IfSome result (λ number. (least ≤ number) × (number ≤ most)) }
 {
     if !is_decimal(word.as_bytes()) {
         return None;

@@ -15,12 +15,13 @@ ghost use Rattle.rooms.specs.declared.play.Stop.TheVariants as stop;
 
 use crate::replay::{Replay, Reply};
 use crate::texts;
-use crate::writing::{write_all, write_lines};
+use crate::writing::write_lines;
 use recording_lines::fault::ReadFault;
 use recording_lines::line_reader::{LineReader, Next};
 use room_link::Failed;
 use room_link::sink::Sink;
 use room_link::source::Source;
+use room_link::writing::write_all;
 use rooms_val::{Mem, OutOfMemory, Steps, Text};
 use std::alloc::{AllocError, Global};
 use std::sync::ledger::Ledger;

@@ -1,7 +1,11 @@
 //! What recordings write, and how runs end, over sources and sinks in memory.
-ghost use Rattle.std.specs.Prelude.{◌≡◌, ◌<◌};
+ghost use Rattle.std.specs.Prelude.{◌≡◌, ◌<◌, ◌^◌, vec_len};
 
 use crate::run::run;
+use room_link::accept::Accept;
+use room_link::gate::OpenGate;
+use room_link::memory_accept::{MemoryAccept, SteadyAccept};
+use room_link::memory_link::SteadyLink;
 use room_link::memory_sink::{MemorySink, SteadySink};
 use room_link::memory_source::{MemorySource, SteadySource};
 use room_link::script::Script;
@@ -11,8 +15,10 @@ use rooms_val::{OutOfMemory, Steps};
 use std::alloc::Global;
 use std::marker::Brand;
 use std::process::Abort;
+use std::sync::Wait;
 use std::sync::ledger::{Blank, Ledger};
 use std::test::Fail;
+use std::thread::Threads;
 
 // Recordings, what they write, and the status; lines are parted by `; `, and some have short names.
 const REPLAYS: &str = r#"
@@ -46,6 +52,10 @@ H; C; {"client":0,"do":"presence","record":{}} | {"at":3,"fault":"WrongScope -"}
 const TRACES: &str = r#"
 H; C; OPEN; PUT; HANDLE; SEND; LOSE; END | {"from":0,"message":{"connectRequestId":"0","lastServerClock":-1,"protocolVersion":1,"schema":SCHEMA,"type":"connect"}}; {"message":{"connectRequestId":"0","diff":{},"hydrationType":"wipe_all","isReadonly":false,"protocolVersion":1,"schema":SCHEMA,"serverClock":0,"type":"connect"},"to":0}; {"from":0,"message":{"clientClock":1,"diff":{"page:p":["put",PAGE]},"type":"push"}}; {"message":{"data":[{"action":"commit","clientClock":1,"serverClock":1,"type":"push_result"}],"type":"data"},"to":0}; {"clock":1,"doc":DOC,"end":true,"presence":{}} | 0
 "#;
+
+// What a server of a room writes whose worker has no link.
+const SERVED: &str =
+    r#"{"ended":0,"faults":0,"links":0,"memory":0,"worker":0}; {"clock":0,"doc":{},"presence":{},"room":0}"#;
 
 // A line by its short name, or the line itself.
 fn line(name: &str) -> &str {
@@ -95,38 +105,70 @@ fn lines(alloc: Global, names: &str) -> Result<String, Fail> {
     Ok(text)
 }
 
-fn run_counted<S: Source, K: Sink, L: Ledger>(
+fn run_counted<R: Threads + Wait + Sync, S: Source, K: Sink, A: Accept + Send, L: Ledger>(
+    rt: &R,
     alloc: Global,
     words: &[String],
     source: &mut S,
     sink: &mut K,
+    workers: &mut Vec<A>,
     blank: Blank,
 ) -> u8
+where
+    A::Link: Send,
     requires name { blank.name ≡ L.name }
     requires parts { blank.parts ≡ L.parts }
     requires some { 0 < blank.parts }
+    requires numbered { vec_len workers.old < 2 ^ 32 }
 {
-    run(alloc, words, source, sink, &mut Steps::<L>::new(blank))
+    run::<R, S, K, A, OpenGate, L>(
+        rt,
+        alloc,
+        words,
+        source,
+        sink,
+        workers,
+        &OpenGate,
+        &mut Steps::<L>::new(blank),
+    )
 }
 
-// Runs over a source and a sink, with the words that are parted by spaces.
-fn run_words<S: Source, K: Sink>(
+// Runs over a source and a sink, and workers, with the words that are parted by spaces.
+fn run_for<R: Threads + Wait + Sync, S: Source, K: Sink, A: Accept + Send>(
+    rt: &R,
+    alloc: Global,
+    words: &str,
+    source: &mut S,
+    sink: &mut K,
+    workers: &mut Vec<A>,
+) -> Result<u8, OutOfMemory>
+where
+    A::Link: Send,
+    requires numbered { vec_len workers.old < 2 ^ 32 }
+{
+    let mut all = Vec::new(alloc);
+    for word in words.split_whitespace() {
+        all.push(String::from_str(alloc, word)?)?;
+    }
+    Ok(run_counted::<R, S, K, A, Brand>(rt, alloc, &all, source, sink, workers, Blank::new(1)))
+}
+
+// The same without a worker.
+fn run_words<R: Threads + Wait + Sync, S: Source, K: Sink>(
+    rt: &R,
     alloc: Global,
     words: &str,
     source: &mut S,
     sink: &mut K,
 ) -> Result<u8, OutOfMemory> {
-    let mut all = Vec::new(alloc);
-    for word in words.split_whitespace() {
-        all.push(String::from_str(alloc, word)?)?;
-    }
-    Ok(run_counted::<S, K, Brand>(alloc, &all, source, sink, Blank::new(1)))
+    let mut workers = Vec::new(alloc);
+    run_for::<R, S, K, SteadyAccept<SteadyLink>>(rt, alloc, words, source, sink, &mut workers)
 }
 
 // Replays a recording that comes and goes so many bytes at a time, and asserts what it writes and
 // the status.
-fn replays(
-    rt: &impl Abort,
+fn replays<R: Abort + Threads + Wait + Sync>(
+    rt: &R,
     alloc: Global,
     words: &str,
     recording: &str,
@@ -138,7 +180,7 @@ fn replays(
 {
     let mut source = SteadySource::new(recording.as_bytes().to_vec(alloc)?, most);
     let mut sink = SteadySink::new(alloc, most);
-    let got = run_words(alloc, words, &mut source, &mut sink)?;
+    let got = run_words(rt, alloc, words, &mut source, &mut sink)?;
     assert!(rt; sink.is_whole());
     assert_eq!(rt; sink.bytes(), written.as_bytes());
     assert_eq!(rt; got, status);
@@ -146,7 +188,12 @@ fn replays(
 }
 
 // Replays each recording of a table, whole and cut at each byte.
-fn replays_table(rt: &impl Abort, alloc: Global, words: &str, table: &str) -> Result<(), Fail> {
+fn replays_table<R: Abort + Threads + Wait + Sync>(
+    rt: &R,
+    alloc: Global,
+    words: &str,
+    table: &str,
+) -> Result<(), Fail> {
     for row in table.lines() {
         let mut cells = row.split(" | ");
         let recording = lines(alloc, cells.next().unwrap_or(""))?;
@@ -327,14 +374,62 @@ fn ends_where_a_write_fails(rt: HostRuntime) -> Result<(), Fail> {
         sink: SteadySink::new(alloc, 4096),
         script: Script::new([1u64].to_vec(alloc)?),
     };
-    assert_eq!(rt; run_words(alloc, "replay", &mut source, &mut sink)?, 5);
+    assert_eq!(rt; run_words(&rt, alloc, "replay", &mut source, &mut sink)?, 5);
     assert_eq!(rt; sink.sink.bytes(), lines(alloc, "NEW")?.as_bytes());
     Ok(())
 }
 
+// Serves a room, with a worker that has no link, and of which a call fails: the status.
+fn serves<R: Threads + Wait + Sync, K: Sink>(
+    rt: &R,
+    alloc: Global,
+    call: u64,
+    sink: &mut K,
+) -> Result<u8, Fail> {
+    let mut source = SteadySource::new(Vec::new(alloc), 4096);
+    let mut workers = Vec::new(alloc);
+    workers.push(MemoryAccept {
+        accept: SteadyAccept::<SteadyLink>::new(alloc),
+        script: Script::new([call].to_vec(alloc)?),
+    })?;
+    Ok(run_for(
+        rt,
+        alloc,
+        "serve 65535 1 1 1",
+        &mut source,
+        sink,
+        &mut workers,
+    )?)
+}
+
+#[test]
+fn ends_where_a_worker_fails(rt: HostRuntime) -> Result<(), Fail> {
+    let alloc = rt.alloc();
+    let written = lines(alloc, SERVED)?;
+    for (call, status) in [(0u64, 7u8), (1, 0)] {
+        let mut sink = SteadySink::new(alloc, 4096);
+        assert_eq!(rt; serves(&rt, alloc, call, &mut sink)?, status);
+        assert_eq!(rt; sink.bytes(), written.as_bytes());
+    }
+    Ok(())
+}
+
+#[test]
+fn serves_up_to_a_write_that_fails(rt: HostRuntime) -> Result<(), Fail> {
+    let alloc = rt.alloc();
+    let mut sink = MemorySink {
+        sink: SteadySink::new(alloc, 4096),
+        script: Script::new([1u64].to_vec(alloc)?),
+    };
+    assert_eq!(rt; serves(&rt, alloc, 1, &mut sink)?, 5);
+    let front = SERVED.split("; ").next().unwrap_or("");
+    assert_eq!(rt; sink.sink.bytes(), lines(alloc, front)?.as_bytes());
+    Ok(())
+}
+
 // Replays a recording that comes 28 bytes at a time, and of which a read fails.
-fn ends_at_read(
-    rt: &impl Abort,
+fn ends_at_read<R: Abort + Threads + Wait + Sync>(
+    rt: &R,
     alloc: Global,
     read: u64,
     recording: &str,
@@ -346,7 +441,7 @@ fn ends_at_read(
         script: Script::new([read].to_vec(alloc)?),
     };
     let mut sink = SteadySink::new(alloc, 4096);
-    assert_eq!(rt; run_words(alloc, "replay", &mut source, &mut sink)?, 4);
+    assert_eq!(rt; run_words(rt, alloc, "replay", &mut source, &mut sink)?, 4);
     assert_eq!(rt; sink.bytes(), lines(alloc, written)?.as_bytes());
     Ok(())
 }
@@ -364,21 +459,25 @@ fn ends_where_a_read_fails(rt: HostRuntime) -> Result<(), Fail> {
 fn takes_no_other_words(rt: HostRuntime) -> Result<(), Fail> {
     let alloc = rt.alloc();
     let table =
-        "\nreplay x\nfly\nreplay --trace --trace\n--trace\nreplay --save\nmake\nmake 7\nmake 0 0\nmake 0 100001\nmake 18446744073709551616 1\nmake 07 1\nmake +7 1\nmake -7 1\nmake 7 01\nmake 7 1 --trace\nmake 7 1 --print --print\n--help";
+        "\nreplay x\nfly\nreplay --trace --trace\n--trace\nreplay --save\nmake\nmake 7\nmake 0 0\nmake 0 100001\nmake 18446744073709551616 1\nmake 07 1\nmake +7 1\nmake -7 1\nmake 7 01\nmake 7 1 --trace\nmake 7 1 --print --print\nserve\nserve 1 1 1\nserve 0 1 1 1\nserve 65536 1 1 1\nserve 1 0 1 1\nserve 1 17 1 1\nserve 1 1 0 1\nserve 1 1 17 1\nserve 1 1 1 0\nserve 1 1 1 1000001\nserve 01 1 1 1\nserve 1 1 1 1 1\n--help";
     for words in table.split('\n') {
         let mut source = SteadySource::new(b"{}".to_vec(alloc)?, 4096);
         let mut sink = SteadySink::new(alloc, 4096);
-        assert_eq!(rt; run_words(alloc, words, &mut source, &mut sink)?, 2);
+        assert_eq!(rt; run_words(&rt, alloc, words, &mut source, &mut sink)?, 2);
         assert_eq!(rt; sink.bytes(), b"".as_slice());
     }
     Ok(())
 }
 
 // What is written of a recording that the words make.
-fn made(rt: &impl Abort, alloc: Global, words: &str) -> Result<String, Fail> {
+fn made<R: Abort + Threads + Wait + Sync>(
+    rt: &R,
+    alloc: Global,
+    words: &str,
+) -> Result<String, Fail> {
     let mut source = SteadySource::new(Vec::new(alloc), 4096);
     let mut sink = SteadySink::new(alloc, 65_536);
-    assert_eq!(rt; run_words(alloc, words, &mut source, &mut sink)?, 0);
+    assert_eq!(rt; run_words(rt, alloc, words, &mut source, &mut sink)?, 0);
     assert!(rt; sink.is_whole());
     Ok(String::from_utf8(sink.bytes().to_vec(alloc)?)?)
 }
@@ -404,7 +503,7 @@ fn makes_what_it_sums_up(rt: HostRuntime) -> Result<(), Fail> {
     assert!(rt; recording.as_str().ends_with("{\"do\":\"end\"}\n"));
     let mut source = SteadySource::new(recording.into_bytes(), 65_536);
     let mut sink = SteadySink::new(alloc, 65_536);
-    assert_eq!(rt; run_words(alloc, "replay", &mut source, &mut sink)?, 0);
+    assert_eq!(rt; run_words(&rt, alloc, "replay", &mut source, &mut sink)?, 0);
     let replayed = String::from_utf8(sink.bytes().to_vec(alloc)?)?;
     assert_eq!(rt;
         last_first_field(replayed.as_str()),

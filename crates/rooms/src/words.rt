@@ -7,11 +7,12 @@ use std::io::Write;
 use std::{env, io};
 
 /// The rows of words that the program takes.
-const USAGE_LINE: &str = "usage: rooms replay [--trace] / make SEED SIZE [--print]\n";
+const USAGE_LINE: &str =
+    "usage: rooms replay [--trace] / make SEED SIZE [--print] / serve PORT WORKERS ROOMS LINKS\n";
 
 /// What each word means.
 pub(crate) const HELP: &str = "\
-usage: rooms replay [--trace] / make SEED SIZE [--print]
+usage: rooms replay [--trace] / make SEED SIZE [--print] / serve PORT WORKERS ROOMS LINKS
 
   replay                   replays the recording on standard input, as it comes: prints what its clients show and watch,
                            and what the room holds at its end
@@ -19,6 +20,9 @@ usage: rooms replay [--trace] / make SEED SIZE [--print]
   make SEED SIZE           makes a recording of SIZE draws, 1 to 100,000, by a seed below 2^64, and prints a line: what
                            the room holds at its end, and how many events were taken and left out
   make SEED SIZE --print   prints the recording itself
+  serve PORT WORKERS ROOMS LINKS
+                           serves ROOMS rooms, 1 to 16, over WebSocket on 127.0.0.1:PORT, by WORKERS workers, 1 to 16: each
+                           serves one client after another, up to LINKS, 1 to 1,000,000; then prints what came of them
   --help                   prints this
   --version                prints the program's name and version
 ";

@@ -1,5 +1,5 @@
-//! Writing a whole text to a sink.
-ghost use Rattle.std.specs.Prelude.{◌≡◌, ℕ, List, ◌<◌, ◌≤◌, length, take, OnOk, OnErr, IsErrOf};
+//! Writing lines to a sink.
+ghost use Rattle.std.specs.Prelude.{ℕ, List, ◌<◌, ◌≤◌, OnOk, OnErr, IsErrOf};
 ghost use Rattle.room_link.specs.Held.{Extends};
 ghost use Rattle.rooms.specs.Texts.{lines_text};
 ghost use Rattle.rooms.specs.Replay.{IsFront};
@@ -8,27 +8,9 @@ ghost use Rattle.rooms.specs.declared.play.Stop.TheVariants as stop;
 use crate::play::Stop;
 use crate::texts::written_line;
 use rec_format::PrintedLine;
-use room_link::Failed;
 use room_link::sink::Sink;
+use room_link::writing::write_all;
 use std::alloc::Global;
-
-/// Writes all of the bytes, by as many writes as the sink wants.
-///
-/// # Errors
-///
-/// `Failed` where a write failed; a front of the bytes is written then.
-pub fn write_all<K: Sink>(sink: &mut K, bytes: &[u8]) -> Result<(), Failed>
-    ensures faults_stay { K.faults sink.old ≤ K.faults sink.new }
-    ensures failed { OnErr result (K.faults sink.old < K.faults sink.new) }
-    ensures held { OnOk result (Extends (K.held sink.old) (K.held sink.new) bytes.now) }
-    ensures front { OnErr result ((n : ℕ) × Extends (K.held sink.old) (K.held sink.new) (take n bytes.now)) }
-{
-    let mut at = 0;
-    'writes: while at < bytes.len() {
-        at += sink.write(&bytes[at..])?;
-    }
-    Ok(())
-}
 
 /// Writes lines one after the other, each by writes of its own.
 ///

@@ -1,4 +1,4 @@
-use Rattle.rooms.proofs.tests.run_words.Given as goal
+use Rattle.rooms.proofs.tests.run_for.Given as goal
 
 -- the steps are counted in a ledger that nobody else has
 abbrev pub ghosts-run_counted : goal.ghosts-run_counted
