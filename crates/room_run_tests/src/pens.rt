@@ -37,8 +37,11 @@ pub(crate) fn pen_difference(
     Ok(Some(format!(in alloc; "the history is:\n{found}")?))
 }
 
-// The first difference between what a running room was and a new room in which one thread does what its history says.
-pub(crate) fn replay_difference(alloc: Global, closed: &Closed) -> Result<Option<String>, Fail> {
+/// The first difference between what a running room was and a new room in which one thread does what its history says.
+///
+/// # Errors
+/// Where memory is refused.
+pub fn replay_difference(alloc: Global, closed: &Closed) -> Result<Option<String>, Fail> {
     let events = rows_of(alloc, closed.pen.as_slice())?;
     let room = room_rows(alloc, &closed.room)?;
     first_difference(alloc, LAST, &[events.as_str(), room.as_str()])
@@ -74,20 +77,53 @@ fn row_of(alloc: Global, event: &RoomEvent) -> Result<String, Fail> {
             let reply = handled_text(alloc, *reply)?;
             Ok(format!(in alloc; "{step} | {reply}\n")?)
         }
-        RoomEvent::Drain(number, out) => {
-            let given = given_text(alloc, out)?;
-            Ok(format!(in alloc; "drain {number} | {given}\n")?)
-        }
+        RoomEvent::Drain(number, out) => given_row(alloc, *number, out.as_ref()),
         RoomEvent::Leave(number) => Ok(format!(in alloc; "leave {number} | left\n")?),
     }
 }
 
-// What a session was given, as text.
-fn given_text(alloc: Global, out: &Option<Out>) -> Result<String, Fail> {
-    match out {
-        Some(out) => out_text(alloc, out),
-        None => Ok(String::from_str(alloc, "nothing")?),
+// The events of a session as rows, but with the replies to its messages left out.
+pub(crate) fn own_rows(alloc: Global, events: &[RoomEvent], session: u64) -> Result<String, Fail> {
+    let mut rows = String::new(alloc);
+    for event in events {
+        if session_of(event) == session {
+            let row = match event {
+                RoomEvent::Message(number, message, _) => said_row(alloc, *number, message)?,
+                _ => row_of(alloc, event)?,
+            };
+            rows.push_str(row.as_str())?;
+        }
     }
+    Ok(rows)
+}
+
+// The session of an event.
+fn session_of(event: &RoomEvent) -> u64 {
+    match event {
+        RoomEvent::Enter(number, _)
+        | RoomEvent::Message(number, _, _)
+        | RoomEvent::Drain(number, _)
+        | RoomEvent::Leave(number) => *number,
+    }
+}
+
+// What a session said, as a row without the reply.
+pub(crate) fn said_row(
+    alloc: Global,
+    number: u64,
+    message: &ClientMessage,
+) -> Result<String, Fail> {
+    let step = step_of(alloc, number, message)?;
+    Ok(format!(in alloc; "{step}\n")?)
+}
+
+// What a session was given, as a row.
+pub(crate) fn given_row(alloc: Global, number: u64, out: Option<&Out>) -> Result<String, Fail> {
+    let given = match out {
+        Some(out) => out_text(alloc, out)?,
+        None => String::from_str(alloc, "nothing")?,
+    };
+    Ok(format!(in alloc; "drain {number} | {given}\n")?)
 }
 
 // The step by which a session sends a message. Who connects has the schema of version 3.

@@ -17,7 +17,8 @@
 //! end of that. `enters=n` stands there for the first n sessions' entering. A text of more than 1,000 bytes is written as its length.
 //!
 //! What plays a table stands outside the tests, and tells the first difference. It says nothing in contracts but that who is gone was
-//! of the room: what a link and a room answer is looked at where the tests are run.
+//! of the room, and that a new link had no fault: what a link and a room answer is looked at where the tests are run. Links by their
+//! words, and what went out on them, are there for the tests of servers too.
 #![tactic(auto)]
 
 #[cfg(test)]
@@ -32,4 +33,7 @@ mod says;
 mod texts;
 mod visitor;
 
+pub use links::link_of;
 pub use plays::first_difference;
+pub use says::sent_text;
+pub use texts::spelled;

@@ -1,4 +1,6 @@
 //! What comes on a link, and what another session says.
+ghost use Rattle.std.specs.Prelude.{◌≡◌, IfOk};
+
 use crate::texts::{bytes_of, text_of};
 use room_link::memory_link::{MemoryLink, SteadyLink};
 use room_link::passing::Arrival;
@@ -9,8 +11,13 @@ use std::test::Fail;
 use sync_msgs::ClientMessage;
 use wire_msgs::read_client;
 
-// A link on which words come.
-pub(crate) fn link_of(alloc: Global, words: &str) -> Result<MemoryLink, Fail> {
+/// A link on which words come, as the first cell of a row has them.
+///
+/// # Errors
+/// A word that is none, and where memory is refused.
+pub fn link_of(alloc: Global, words: &str) -> Result<MemoryLink, Fail>
+    ensures { IfOk result (λ link. link.script.faults ≡ 0) }
+{
     let mut arrivals = VecDeque::new(alloc);
     let mut failing = Vec::new(alloc);
     for word in words.split_whitespace() {

@@ -58,8 +58,11 @@ fn add_ends(alloc: Global, words: &mut String, report: &Report) -> Result<(), Fa
     Ok(())
 }
 
-// What went out on a link; `-` if nothing did.
-pub(crate) fn sent_text(alloc: Global, sent: &[Outgoing]) -> Result<String, Fail> {
+/// What went out on a link, as texts and reasons; `-` if nothing did.
+///
+/// # Errors
+/// Where memory is refused.
+pub fn sent_text(alloc: Global, sent: &[Outgoing]) -> Result<String, Fail> {
     let mut words = String::new(alloc);
     for what in sent {
         match what {

@@ -140,8 +140,11 @@ pub(crate) fn add_shown(alloc: Global, words: &mut String, text: &str) -> Result
     add(words, length.as_str())
 }
 
-// What is wanted, with its short names written out.
-pub(crate) fn spelled(alloc: Global, wanted: &str) -> Result<String, Fail> {
+/// What is wanted, with its short names written out.
+///
+/// # Errors
+/// A name that is none, and where memory is refused.
+pub fn spelled(alloc: Global, wanted: &str) -> Result<String, Fail> {
     let mut words = String::new(alloc);
     for word in wanted.split_whitespace() {
         match word.strip_prefix("enters=") {
