@@ -24,6 +24,10 @@
 //! - `put` puts SIZE shapes on one page at each call, in one transaction of a new store. It comes to how many records there are.
 //! - `seek` asks at each call for those of SIZE shapes that have one x, with an index, and `walk` without. They come to how many
 //!   there were.
+//! - `turn` lets SIZE sessions, 1 to 8, push a patch of a page of its own at each call, by turns, into STEP rooms, 1 to 8. `share`
+//!   has as many threads do the same in running rooms, each for a session. They come to the sum of the rooms' clocks.
+//! - `wait` has STEP threads, 1 to 8, each push a patch of SIZE pages of its own into one running room at each call. It comes to the
+//!   room's clock.
 //! - `all` is each of these, one after another.
 //!
 //! For each call that was asked for the program prints its words, and what the call comes to.
@@ -40,25 +44,30 @@ mod made;
 mod marks;
 mod messages;
 mod rooms;
+mod sharing;
 mod signals;
 mod touching;
 mod transactions;
+mod turns;
 mod values;
 
 use boards::Work;
 use clients::Messages;
 use made::ids_of;
 use rooms_val::{Mem, Steps, Text};
+use sharing::SHARED;
 use std::alloc::Global;
 use std::marker::Brand;
 use std::process::ExitCode;
+use std::sync::Wait;
 use std::sync::ledger::{Blank, Ledger};
+use std::thread::Threads;
 use std::{env, io};
 use touching::Calls;
 use values::OnValue;
 
 const USAGE: &str =
-    "usage: part_bench WORD SIZE CALLS STEP, where WORD is all or one of read_value weigh_value copy_value print_value touch copy push take make read_data print_data marks cut compute write hold views put seek walk";
+    "usage: part_bench WORD SIZE CALLS STEP, where WORD is all or one of read_value weigh_value copy_value print_value touch copy push take make read_data print_data marks cut compute write hold views put seek walk turn share wait";
 
 /// Which call is done many times.
 #[derive(Clone, Copy)]
@@ -66,6 +75,7 @@ enum Call {
     OnValue(OnValue),
     OnShapes(OnShapes),
     Push,
+    Turn,
     Cut,
     Compute,
     Write,
@@ -85,7 +95,7 @@ enum OnShapes {
 }
 
 /// Each call, by its word.
-const CALLS: [(&str, Call); 20] = [
+const CALLS: [(&str, Call); 21] = [
     ("read_value", Call::OnValue(OnValue::Read)),
     ("weigh_value", Call::OnValue(OnValue::Weigh)),
     ("copy_value", Call::OnValue(OnValue::Copy)),
@@ -93,6 +103,7 @@ const CALLS: [(&str, Call); 20] = [
     ("touch", Call::OnShapes(OnShapes::Touch)),
     ("copy", Call::OnShapes(OnShapes::Copy)),
     ("push", Call::Push),
+    ("turn", Call::Turn),
     ("take", Call::OnShapes(OnShapes::Client(Messages::Taken))),
     ("make", Call::OnShapes(OnShapes::Client(Messages::Made))),
     ("read_data", Call::OnShapes(OnShapes::ReadData)),
@@ -132,6 +143,7 @@ impl Call {
                 call.repeated(alloc, &ids_of(alloc, "shape", size)?, calls, &mut steps)
             }
             Call::Push => rooms::pushed(alloc, size, calls, &mut steps),
+            Call::Turn => turns::turned(alloc, size, calls, &mut steps),
             Call::Cut => cutting::cut(alloc, size, calls.count),
             Call::Compute => signals::computed(alloc, size, calls, &mut steps),
             Call::Write => transactions::written(alloc, size, calls.count),
@@ -174,27 +186,34 @@ fn asked(words: &[String]) -> Option<(&str, u32, Calls)> {
 }
 
 /// Does the call that the words ask for, or each. It returns a line for each that was done.
-fn done(alloc: Global, words: &[String]) -> Mem<String> {
+fn done<R: Threads + Wait + Sync>(rt: &R, alloc: Global, words: &[String]) -> Mem<String> {
     let mut lines = String::new(alloc);
     if let Some((asked, size, calls)) = asked(words) {
         for (word, call) in &CALLS {
             if asked == *word || asked == "all" {
-                add_line(alloc, &mut lines, (word, *call), size, calls)?;
+                let comes_to = call.repeated(alloc, size, calls)?;
+                add_line(alloc, &mut lines, word, size, calls, comes_to)?;
+            }
+        }
+        for (word, call) in &SHARED {
+            if asked == *word || asked == "all" {
+                let comes_to = call.repeated(rt, alloc, size, calls)?;
+                add_line(alloc, &mut lines, word, size, calls, comes_to)?;
             }
         }
     }
     Ok(lines)
 }
 
-/// Does a call, and adds the line that tells what it comes to.
+/// Adds the line that tells what a call comes to.
 fn add_line(
     alloc: Global,
     lines: &mut String,
-    (word, call): (&str, Call),
+    word: &str,
     size: u32,
     calls: Calls,
+    comes_to: i64,
 ) -> Mem<()> {
-    let comes_to = call.repeated(alloc, size, calls)?;
     let Calls { count, step } = calls;
     let line = format!(in alloc; "{word} {size} {count} {step} {comes_to}\n")?;
     lines.push_str(line.as_str())?;
@@ -207,7 +226,7 @@ fn main(rt: HostRuntime) -> io::Result<ExitCode> {
     for word in env::args(&rt)?.skip(1) {
         words.push(word)?;
     }
-    let Ok(lines) = done(alloc, &words) else {
+    let Ok(lines) = done(&rt, alloc, &words) else {
         eprintln!(rt; "part_bench: out of memory")?;
         return Ok(ExitCode::FAILURE);
     };

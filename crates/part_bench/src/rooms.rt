@@ -1,5 +1,8 @@
 //! Pushes of patches into a room of many records.
+ghost use Rattle.std.specs.Prelude.{ℕ, IfOk};
+ghost use Rattle.room_model.specs.Rooms as model;
 ghost use Rattle.sync_room.specs.Sessions.{IsIn};
+ghost use Rattle.sync_room.specs.Standing.{Stands};
 
 use crate::made::{diff_of, ids_of, patch, record_of};
 use crate::touching::Calls;
@@ -37,8 +40,10 @@ pub(crate) fn pushed<L: Ledger>(
     }
 }
 
-/// A room of the newest version.
-fn new_room(alloc: Global) -> Result<Room, TableFault> {
+/// A room of the newest version, in which nothing has happened.
+pub(crate) fn new_room(alloc: Global) -> Result<Room, TableFault>
+    ensures { IfOk result (λ room. (bound : ℕ) × Stands (model.new_room bound) room) }
+{
     let schema = schema_at(alloc, 3)?;
     tables_have_presences();
     Ok(Room::new(alloc, schema, LAST)?)
@@ -67,7 +72,7 @@ fn push_all<L: Ledger>(
 }
 
 /// The message by which the session asks to be connected.
-fn connect_message(alloc: Global) -> Mem<ClientMessage> {
+pub(crate) fn connect_message(alloc: Global) -> Mem<ClientMessage> {
     let schema = versions(alloc)?;
     Ok(ClientMessage::Connect {
         connect_request_id: Text::of(alloc, "0")?,
@@ -87,7 +92,7 @@ fn versions(alloc: Global) -> Mem<Serialized> {
 }
 
 /// A diff that puts a page for each id.
-fn puts(alloc: Global, ids: &[Text]) -> Mem<Diff> {
+pub(crate) fn puts(alloc: Global, ids: &[Text]) -> Mem<Diff> {
     let mut diff = Diff::new(alloc);
     put_pages(alloc, &mut diff, ids)?;
     Ok(diff)
@@ -102,10 +107,29 @@ fn put_pages(alloc: Global, diff: &mut Diff, ids: &[Text]) -> Mem<()> {
     Ok(())
 }
 
+/// A diff that gives the page of each id another name.
+pub(crate) fn renamed_all(alloc: Global, ids: &[Text]) -> Mem<Diff> {
+    let mut diff = Diff::new(alloc);
+    for id in ids {
+        let name = Val::Text(Text::of(alloc, "name")?);
+        drop(diff.put(id.copy(alloc)?, patch(alloc, "name", name)?)?);
+    }
+    Ok(diff)
+}
+
 /// A diff that gives the page of an id another name.
-fn renamed(alloc: Global, id: &Text) -> Mem<Diff> {
+pub(crate) fn renamed(alloc: Global, id: &Text) -> Mem<Diff> {
     let name = Val::Text(Text::of(alloc, "name")?);
     diff_of(alloc, id, patch(alloc, "name", name)?)
+}
+
+/// The message by which a session pushes a diff.
+pub(crate) fn push_message(client_clock: i64, diff: Diff) -> ClientMessage {
+    ClientMessage::Push {
+        client_clock,
+        diff: Some(diff),
+        presence: None,
+    }
 }
 
 /// The session pushes a diff, and is given what is next.
@@ -116,12 +140,7 @@ fn push<L: Ledger>(
     diff: Diff,
     steps: &mut Steps<L>,
 ) -> Mem<()> {
-    let message = ClientMessage::Push {
-        client_clock,
-        diff: Some(diff),
-        presence: None,
-    };
-    exchange(alloc, room, &message, steps)
+    exchange(alloc, room, &push_message(client_clock, diff), steps)
 }
 
 /// The room handles a message of its session, and gives it what is next.
