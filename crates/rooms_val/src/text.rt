@@ -1,5 +1,5 @@
 //! Text that a value owns, and that its copies share.
-ghost use Rattle.std.specs.Prelude.{◌≡◌, ◌≤◌, length, IfOk, IsUtf8, string_bytes};
+ghost use Rattle.std.specs.Prelude.{◌≡◌, ◌≤◌, ◌++◌, length, IfOk, IsUtf8, string_bytes};
 
 use crate::memory::Mem;
 use std::alloc::Global;
@@ -127,6 +127,17 @@ impl Text {
             Place::Here(short) => short.as_str(),
             Place::There(shared) => shared.as_str(),
         }
+    }
+
+    /// The text followed by another. It copies the bytes of both once.
+    pub fn followed_by(&self, alloc: Global, more: &Text) -> Mem<Text>
+        ensures { IfOk result (λ t. t ≡ self.now ++ more.now) }
+    {
+        let mut text = String::new(alloc);
+        text.reserve(self.as_str().len() + more.as_str().len())?;
+        text.push_str(self.as_str())?;
+        text.push_str(more.as_str())?;
+        Text::from_string(text)
     }
 
     /// An equal text, at the cost of a few bytes or of counting one more owner. It takes no memory.
