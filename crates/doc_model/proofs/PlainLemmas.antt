@@ -5,7 +5,7 @@ use Rattle.std.proofs.lemmas.Option.{same_Some}
 use Rattle.rooms_val.specs.Data.{Data, null, boolean, whole, text, list, map, Pairs, list_of, pairs_of}
 use Rattle.rooms_val.specs.Maps.{value_at, set_at, ties, EachValue}
 use Rattle.rooms_val.proofs.MapsLemmas.{each-with_key, each-where_key}
-use Rattle.field_ops.specs.ValueOps.{ValueOpTree, put, patch, append, delete, ValueOpTrees, no_edits, edit_at, edits_of, patch_of, Patch, edit_has_append, edits_have_append}
+use Rattle.field_ops.specs.ValueOps.{ValueOpTree, put, patch, append, append_text, delete, ValueOpTrees, no_edits, edit_at, edits_of, patch_of, Patch, edit_has_append, edits_have_append}
 use Rattle.field_ops.specs.RecordOps as change
 use Rattle.field_ops.specs.RecordOps.{RecordOpTree, RecordOps, has_append}
 use Rattle.field_ops.specs.Inverses.{undo, inverted, patch_back, inverse}
@@ -79,6 +79,14 @@ mutual
   plain_undo (append ds n) (Some (list es)) u is =
       elim (nat_eq (length (list_of es)) n) as (λ b. cond b (Some (put (list es))) None ≡ Some u → Plain u) [ true ↦ λ is. plain_some (put (list es)) u refl is | false ↦ λ is. absurd (cc) ] is
   plain_undo (append ds n) (Some (map ms)) u is = absurd (cc)
+  plain_undo (append_text s n) None u is = absurd (cc)
+  plain_undo (append_text s n) (Some null) u is = absurd (cc)
+  plain_undo (append_text s n) (Some (boolean b)) u is = absurd (cc)
+  plain_undo (append_text s n) (Some (whole z)) u is = absurd (cc)
+  plain_undo (append_text s n) (Some (text t)) u is =
+      elim (nat_eq (length t) n) as (λ b. cond b (Some (put (text t))) None ≡ Some u → Plain u) [ true ↦ λ is. plain_some (put (text t)) u refl is | false ↦ λ is. absurd (cc) ] is
+  plain_undo (append_text s n) (Some (list es)) u is = absurd (cc)
+  plain_undo (append_text s n) (Some (map ms)) u is = absurd (cc)
   plain_undo delete None u is = absurd (cc)
   plain_undo delete (Some old) u is = plain_some (put old) u refl is
 
@@ -94,8 +102,10 @@ mutual
   plain_after (patch es) (put x) later first = refl
   plain_after (patch es) (patch fs) later first = plain_edits (both es (patch_of fs)) (plain_both es (patch_of fs) later (each_edit fs first))
   plain_after (patch es) (append ds n) later first = first
+  plain_after (patch es) (append_text s n) later first = first
   plain_after (patch es) delete later first = refl
   plain_after (append ds n) d later first = later
+  plain_after (append_text s n) d later first = later
   plain_after delete d later first = refl
 
   plain_both : (es : ValueOpTrees) (p : Patch) → edits_have_append es ≡ false → EachPlain p → EachPlain (both es p)

@@ -4,7 +4,7 @@ use Rattle.std.specs.Option.{option_and_then}
 use Rattle.rooms_val.specs.Data.{Data, null, boolean, whole, text, list, map, Pairs, Items, item, no_items, items_of, list_of, Members, members_of, pairs_of, IsSound, AreSoundItems, AreSoundMembers, IsSoundRecord}
 use Rattle.rooms_val.proofs.DataLemmas.{pairs_of-members_of, members_of-pairs_of, sound_at, sound-set_at}
 use Rattle.rooms_val.specs.Maps.{AreRising, value_at, ties}
-use Rattle.field_ops.specs.ValueOps.{ValueOpTree, put, patch, append, delete, ValueOpTrees, no_edits, edit_at, edits_of, patch_of, Patch, edit_has_append, edits_have_append, IsSoundEdit, AreSoundEdits}
+use Rattle.field_ops.specs.ValueOps.{ValueOpTree, put, patch, append, append_text, delete, ValueOpTrees, no_edits, edit_at, edits_of, patch_of, Patch, edit_has_append, edits_have_append, IsSoundEdit, AreSoundEdits}
 use Rattle.field_ops.specs.RecordOps as change
 use Rattle.field_ops.specs.Patched.{edited, patched, value_after, raw}
 use Rattle.field_ops.specs.Inverses.{undo, inverted, inverse}
@@ -19,12 +19,13 @@ sound_in ms k each = sound_at (pairs_of ms) k (subst AreSoundMembers (sym (membe
 
 -- what holds of a patch wherever it holds of its operations holds of every operation
 module _ (P : ValueOpTree → Type 0) (of_put : (d : Data) → P (put d)) (of_patch : (p : Patch) → ((k : List ℕ) (e : ValueOpTree) → value_at p k ≡ Some e → P e) → P (patch (edits_of p)))
-    (of_append : (ds : List Data) (n : ℕ) → P (append ds n)) (of_delete : P delete) where
+    (of_append : (ds : List Data) (n : ℕ) → P (append ds n)) (of_append_text : (s : List ℕ) (n : ℕ) → P (append_text s n)) (of_delete : P delete) where
   mutual
     pub every : (e : ValueOpTree) → P e
     every (put d) = of_put d
     every (patch es) = subst (λ t. P (patch t)) (edits_of-patch_of es) (of_patch (patch_of es) (every_at es))
     every (append ds n) = of_append ds n
+    every (append_text s n) = of_append_text s n
     every delete = of_delete
 
     every_at : (es : ValueOpTrees) (k : List ℕ) (e : ValueOpTree) → value_at (patch_of es) k ≡ Some e → P e
@@ -85,8 +86,21 @@ undone_append ds n (Some (text s)) sound = refl
 undone_append ds n (Some (list es)) sound = undone_list ds n es (nat_eq (length (list_of es)) n)
 undone_append ds n (Some (map ms)) sound = refl
 
+undone_text : (more s : List ℕ) (b : Bool) → value_after (cond b (Some (put (text s))) None) (Some (cond b (text (s ++ more)) (text s))) ≡ Some (text s)
+undone_text more s true = refl
+undone_text more s false = refl
+
+undone_append_text : (more : List ℕ) (n : ℕ) → Undone (append_text more n)
+undone_append_text more n None sound = refl
+undone_append_text more n (Some null) sound = refl
+undone_append_text more n (Some (boolean b)) sound = refl
+undone_append_text more n (Some (whole z)) sound = refl
+undone_append_text more n (Some (text s)) sound = undone_text more s (nat_eq (length s) n)
+undone_append_text more n (Some (list es)) sound = refl
+undone_append_text more n (Some (map ms)) sound = refl
+
 undone : (e : ValueOpTree) → Undone e
-undone = every Undone undone_put undone_patch undone_append undone_delete
+undone = every Undone undone_put undone_patch undone_append undone_append_text undone_delete
 
 pub brings_back : (c : change.RecordOpTree) (r : Option Data) → IsSoundRecord r → raw_after (inverse c r) (raw c r) ≡ r
 brings_back (change.put d) None sound = refl
@@ -152,10 +166,11 @@ joins_patch q each later (put d) earlier o sound = refl
 joins_patch q each later (patch es) earlier o sound =
     joins_map q (patch_of es) each later (ap edits_have_append (edits_of-patch_of es) ∙ earlier) o sound ∙ ap (λ t. edited (patch (edits_of q)) (edited (patch t) o)) (edits_of-patch_of es)
 joins_patch q each later (append ds n) earlier o sound = cc
+joins_patch q each later (append_text s n) earlier o sound = cc
 joins_patch q each later delete earlier o sound = refl
 
 joins : (e : ValueOpTree) → Joins e
-joins = every Joins (λ d later first earlier o sound. refl) joins_patch (λ ds n later first earlier o sound. cc) (λ later first earlier o sound. refl)
+joins = every Joins (λ d later first earlier o sound. refl) joins_patch (λ ds n later first earlier o sound. cc) (λ s n later first earlier o sound. cc) (λ later first earlier o sound. refl)
 
 pub does_both : (a b : change.RecordOpTree) (r : Option Data) → change.has_append a ≡ false → change.has_append b ≡ false → IsSoundRecord r → raw (in_turn a b) r ≡ raw b (raw a r)
 does_both a (change.put d) r earlier later sound = refl
@@ -176,6 +191,10 @@ sound_longer : (ds : List Data) (es : Items) (b : Bool) → AreSoundItems (items
 sound_longer ds es true more each = sound_append (list_of es) ds (subst AreSoundItems (sym (items_of-list_of es)) each) more
 sound_longer ds es false more each = each
 
+sound_lengthened : (more s : List ℕ) (b : Bool) → IsSound (cond b (text (s ++ more)) (text s))
+sound_lengthened more s true = tt
+sound_lengthened more s false = tt
+
 -- sound operations leave what is sound sound
 mutual
   sound_edited : (e : ValueOpTree) → IsSoundEdit e → (o : Option Data) → IsSoundRecord o → IsSoundRecord (edited e o)
@@ -194,6 +213,13 @@ mutual
   sound_edited (append ds n) new (Some (text s)) old = old
   sound_edited (append ds n) new (Some (list es)) old = sound_longer ds es (nat_eq (length (list_of es)) n) new.0 old
   sound_edited (append ds n) new (Some (map ms)) old = old
+  sound_edited (append_text more n) new None old = tt
+  sound_edited (append_text more n) new (Some null) old = old
+  sound_edited (append_text more n) new (Some (boolean b)) old = old
+  sound_edited (append_text more n) new (Some (whole z)) old = old
+  sound_edited (append_text more n) new (Some (text s)) old = sound_lengthened more s (nat_eq (length s) n)
+  sound_edited (append_text more n) new (Some (list es)) old = old
+  sound_edited (append_text more n) new (Some (map ms)) old = old
   sound_edited delete new o old = tt
 
   sound_patched : (es : ValueOpTrees) → AreSoundEdits es → (f : Pairs) → IsSound (map (members_of f)) → IsSound (map (members_of (patched es f)))

@@ -39,11 +39,15 @@ append_again ds n fits =
     let small : nat_lt n (2 ^ 32) ≡ true = grind (arith, nat_tests) in
     rw (small, list_of-items_of ds)
 
+append_text_again : (s : List ℕ) (n : ℕ) → n < 2 ^ 32 → value_op_of_data (edit_data (edit.append_text s n)) ≡ Some (edit.append_text s n)
+append_text_again s n fits = let small : nat_lt n (2 ^ 32) ≡ true = grind (arith, nat_tests) in rw small refl
+
 mutual
   pub edit_again : (e : ValueOpTree) → IsSoundEdit e → value_op_of_data (edit_data e) ≡ Some e
   edit_again (edit.put d) sound = put_again d
   edit_again (edit.patch es) sound = ap (λ o. option_map edit.patch o) (edits_again es sound.1)
   edit_again (edit.append ds n) sound = append_again ds n sound.1
+  edit_again (edit.append_text s n) sound = append_text_again s n sound
   edit_again edit.delete sound = refl
 
   pub edits_again : (es : ValueOpTrees) → AreSoundEdits es → value_ops_of_members (edits_data es) ≡ Some es
@@ -115,6 +119,21 @@ append_read name ds n e sound = elim (nat_lt n (2 ^ 32)) as (λ b. nat_lt n (2 ^
       | false ↦ λ t h. absurd cc
     ] refl
 
+append_text_read : (name s : List ℕ) (n : ℕ) (e : ValueOpTree) → append_of name (value.text s) (value.whole (pos n)) ≡ Some e
+    → (value.list (value.item (value.text name) (value.item (value.text s) (value.item (value.whole (pos n)) value.no_items))) ≡ edit_data e) × IsSoundEdit e
+append_text_read name s n e = elim (nat_lt n (2 ^ 32)) as (λ b. nat_lt n (2 ^ 32) ≡ b → cond b (if_named (codes "append") name (Some (edit.append_text s n))) None ≡ Some e
+    → (value.list (value.item (value.text name) (value.item (value.text s) (value.item (value.whole (pos n)) value.no_items))) ≡ edit_data e) × IsSoundEdit e) [
+      | true ↦ λ t h.
+          let fits : n < 2 ^ 32 = grind (arith, nat_tests, t) in
+          let p = if_named_is (codes "append") name (Some (edit.append_text s n)) e h in
+          let is : edit.append_text s n ≡ e = (let same = p.1 in cc) in
+          subst (λ x. (value.list (value.item (value.text name) (value.item (value.text s) (value.item (value.whole (pos n)) value.no_items))) ≡ edit_data x) × IsSoundEdit x) is (
+            ap (λ t. value.list (value.item (value.text t) (value.item (value.text s) (value.item (value.whole (pos n)) value.no_items)))) p.0,
+            fits,
+          )
+      | false ↦ λ t h. absurd cc
+    ] refl
+
 -- a one-part operation, by its name
 part_is : (name given : List ℕ) (d : Data) (e : ValueOpTree) → name ≡ given → edit_data e ≡ value.list (value.item (value.text given) (value.item d value.no_items)) → value.list (value.item (value.text name) (value.item d value.no_items)) ≡ edit_data e
 part_is name given d e is printed = ap (λ n. value.list (value.item (value.text n) (value.item d value.no_items))) is ∙ sym printed
@@ -133,6 +152,7 @@ delete_read name e h =
 
 append_read_any : (name : List ℕ) (d f : Data) (e : ValueOpTree) → IsSound d → append_of name d f ≡ Some e → (value.list (value.item (value.text name) (value.item d (value.item f value.no_items))) ≡ edit_data e) × IsSoundEdit e
 append_read_any name (value.list ds) (value.whole (pos n)) e sound h = append_read name ds n e sound h
+append_read_any name (value.text s) (value.whole (pos n)) e sound h = append_text_read name s n e h
 append_read_any name d f e sound h = absurd cc
 
 -- the keys of a patch are those of its map

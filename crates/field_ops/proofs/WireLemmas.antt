@@ -4,7 +4,7 @@ use Rattle.rooms_val.specs.Data.{Data, null, list, map, whole, depth, member, It
 use Rattle.rooms_val.proofs.DataLemmas.{pairs_of-members_of, list_of-items_of}
 use Rattle.rooms_val.specs.View.{data_of, items_view, pairs_view}
 use Rattle.rooms_val.specs.declared.val.Val.{Val}
-use Rattle.field_ops.specs.ValueOps.{ValueOpTree, put, patch, append, delete, ValueOpTrees, no_edits, edit_at, edits_of, patch_of, Patch, IsSoundEdit, AreSoundEdits, IsSoundPatch}
+use Rattle.field_ops.specs.ValueOps.{ValueOpTree, put, patch, append, append_text, delete, ValueOpTrees, no_edits, edit_at, edits_of, patch_of, Patch, IsSoundEdit, AreSoundEdits, IsSoundPatch}
 use Rattle.field_ops.specs.RecordOps as change
 use Rattle.rooms_val.specs.Maps.{AreRising, value_at}
 use Rattle.field_ops.specs.View.{edit_of, patch_view}
@@ -12,7 +12,7 @@ use Rattle.field_ops.specs.ViewRecordOps.{change_of, changes_view}
 use Rattle.field_ops.specs.declared.value_op.ValueOp.{ValueOp}
 use Rattle.field_ops.specs.declared.record_op.RecordOp.{RecordOp}
 use Rattle.rooms_val.proofs.MapsLemmas.{at-seen, rising-seen, option_map-after}
-use Rattle.field_ops.specs.Wire.{named, edit_data, edits_data, patch_pairs}
+use Rattle.field_ops.specs.Wire.{named, edit_data, edits_data, patch_pairs, IsAppendable}
 use Rattle.field_ops.specs.WireRecordOps.{change_data, change_in, change_in-change_data, diff_pairs}
 
 pub edits_of-patch_of : (es : ValueOpTrees) → edits_of (patch_of es) ≡ es
@@ -39,6 +39,7 @@ module _ (d : Data) (vs : List Data) where
   no_put from never (put x) is = let same : items_of vs ≡ item x no_items = cc in never x (same_list vs (x ∷ []) same)
   no_put from never (patch es) is = cc
   no_put from never (append ds n) is = cc
+  no_put from never (append_text s n) is = cc
   no_put from never delete is = cc
 
   pub no_patch : d ≡ named (codes "patch") (items_of vs) → ((p : Patch) → IsSoundPatch p → vs ≡ map (edits_data (edits_of p)) ∷ [] → ⊥) → (e : ValueOpTree) → IsSoundEdit e → d ≡ edit_data e → ⊥
@@ -47,20 +48,25 @@ module _ (d : Data) (vs : List Data) where
       let same : items_of vs ≡ item (map (edits_data es)) no_items = cc in
       subst (λ t. IsSoundEdit (patch t) → vs ≡ map (edits_data t) ∷ [] → ⊥) (edits_of-patch_of es) (never (patch_of es)) sound (same_list vs (map (edits_data es) ∷ []) same)
   no_patch from never (append ds n) sound is = cc
+  no_patch from never (append_text s n) sound is = cc
   no_patch from never delete sound is = cc
 
-  pub no_append : d ≡ named (codes "append") (items_of vs) → ((ds : List Data) (n : ℕ) → n < 2 ^ 32 → vs ≡ list (items_of ds) ∷ whole (pos n) ∷ [] → ⊥) → (e : ValueOpTree) → IsSoundEdit e → d ≡ edit_data e → ⊥
+  pub no_append : d ≡ named (codes "append") (items_of vs) → ((x : Data) (n : ℕ) → n < 2 ^ 32 → vs ≡ x ∷ whole (pos n) ∷ [] → ¬ IsAppendable x) → (e : ValueOpTree) → IsSoundEdit e → d ≡ edit_data e → ⊥
   no_append from never (put x) sound is = cc
   no_append from never (patch es) sound is = cc
   no_append from never (append ds n) sound is =
       let same : items_of vs ≡ item (list (items_of ds)) (item (whole (pos n)) no_items) = cc in
-      never ds n sound.1 (same_list vs (list (items_of ds) ∷ whole (pos n) ∷ []) same)
+      never (list (items_of ds)) n sound.1 (same_list vs (list (items_of ds) ∷ whole (pos n) ∷ []) same) tt
+  no_append from never (append_text s n) sound is =
+      let same : items_of vs ≡ item (text s) (item (whole (pos n)) no_items) = cc in
+      never (text s) n sound (same_list vs (text s ∷ whole (pos n) ∷ []) same) tt
   no_append from never delete sound is = two_letters (letter d) (ap letter from) (ap letter is)
 
   pub no_delete : d ≡ named (codes "delete") (items_of vs) → (vs ≡ [] → ⊥) → (e : ValueOpTree) → d ≡ edit_data e → ⊥
   no_delete from never (put x) is = cc
   no_delete from never (patch es) is = cc
   no_delete from never (append ds n) is = two_letters (letter d) (ap letter is) (ap letter from)
+  no_delete from never (append_text s n) is = two_letters (letter d) (ap letter is) (ap letter from)
   no_delete from never delete is = let same : items_of vs ≡ no_items = cc in never (same_list vs [] same)
 
   pub no_remove : d ≡ named (codes "remove") (items_of vs) → (vs ≡ [] → ⊥) → (c : change.RecordOpTree) → d ≡ change_data c → ⊥
@@ -74,7 +80,12 @@ pub no_name : (d : Data) → ((ds : Items) → d ≡ named (codes "put") ds → 
 no_name d a b c e (put x) is = a _ is
 no_name d a b c e (patch es) is = b _ is
 no_name d a b c e (append ds n) is = c _ is
+no_name d a b c e (append_text s n) is = c _ is
 no_name d a b c e delete is = e _ is
+
+-- what stands before an offset is found: it is what was read
+pub no_other : (vs : List Data) (d : Data) (m : ℕ) → vs ≡ d ∷ whole (pos m) ∷ [] → ¬ IsAppendable d → (x : Data) (n : ℕ) → n < 2 ^ 32 → vs ≡ x ∷ whole (pos n) ∷ [] → ¬ IsAppendable x
+no_other vs d m is never x n fits same = let one : d ≡ x = cc in subst (λ y. ¬ IsAppendable y) one never
 
 pub no_change : (d : Data) → ((ds : Items) → d ≡ named (codes "remove") ds → ⊥) → ((e : ValueOpTree) → IsSoundEdit e → d ≡ edit_data e → ⊥) → (c : change.RecordOpTree) → change.IsSoundChange c → d ≡ change_data c → ⊥
 no_change d none never (change.put x) sound is = never (put x) sound is

@@ -2,7 +2,7 @@
 use Rattle.std.specs.Prelude.{Option, Some, None, option_map, unwrap_or}
 use Rattle.rooms_val.specs.Data.{Pairs}
 use Rattle.rooms_val.specs.Maps.{value_at, with_key}
-use Rattle.field_ops.specs.ValueOps.{ValueOpTree, put, patch, append, delete, ValueOpTrees, no_edits, edit_at, edits_of, patch_of, Patch}
+use Rattle.field_ops.specs.ValueOps.{ValueOpTree, put, patch, append, append_text, delete, ValueOpTrees, no_edits, edit_at, edits_of, patch_of, Patch}
 use Rattle.field_ops.specs.RecordOps as change
 use Rattle.rooms_val.specs.Kinds.{on_map}
 use Rattle.field_ops.specs.Patched.{patched}
@@ -12,6 +12,7 @@ abbrev pub patched_edit : (Pairs → Pairs) → (Patch → Patch) → ValueOpTre
 patched_edit f g (put d) = put (on_map f d)
 patched_edit f g (patch es) = patch (edits_of (g (patch_of es)))
 patched_edit f g (append ds n) = append ds n
+patched_edit f g (append_text s n) = append_text s n
 patched_edit f g delete = delete
 
 abbrev mutual
@@ -20,6 +21,7 @@ abbrev mutual
   after (put d) first = put d
   after (patch es) first = patched_edit (λ f. patched es f) (λ p. both es p) first
   after (append ds n) first = append ds n
+  after (append_text s n) first = append_text s n
   after delete first = delete
 
   -- a second patch after a first: each keeps its own keys, and at a key of both one operation does both

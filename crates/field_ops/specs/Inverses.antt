@@ -3,7 +3,7 @@ use Rattle.std.specs.Prelude.{ℕ, [], length, nat_eq, if◌then◌else◌, Opti
 use Rattle.std.specs.Option.{option_and_then}
 use Rattle.rooms_val.specs.Data.{Data, null, boolean, whole, text, list, map, Pairs, list_of, pairs_of}
 use Rattle.rooms_val.specs.Maps.{value_at, set_at}
-use Rattle.field_ops.specs.ValueOps.{ValueOpTree, put, patch, append, delete, ValueOpTrees, no_edits, edit_at, edits_of, Patch}
+use Rattle.field_ops.specs.ValueOps.{ValueOpTree, put, patch, append, append_text, delete, ValueOpTrees, no_edits, edit_at, edits_of, Patch}
 use Rattle.field_ops.specs.RecordOps as change
 
 -- the patch that a function makes of a map; of what is no map, none
@@ -24,6 +24,15 @@ of_list n (text s) = None
 of_list n (list ds) = if nat_eq (length (list_of ds)) n then Some (put (list ds)) else None
 of_list n (map ms) = None
 
+-- a put of a text of n bytes; of what is no such text, nothing
+abbrev pub of_text : ℕ → Data → Option ValueOpTree
+of_text n null = None
+of_text n (boolean b) = None
+of_text n (whole z) = None
+of_text n (text s) = if nat_eq (length s) n then Some (put (text s)) else None
+of_text n (list ds) = None
+of_text n (map ms) = None
+
 abbrev mutual
   -- the operation that brings a value back, or its absence; none where the operation does nothing
   pub undo : ValueOpTree → Option Data → Option ValueOpTree
@@ -31,6 +40,7 @@ abbrev mutual
   undo (put d) (Some old) = Some (put old)
   undo (patch es) old = option_and_then (of_map (λ f. inverted es f)) old
   undo (append ds n) old = option_and_then (of_list n) old
+  undo (append_text s n) old = option_and_then (of_text n) old
   undo delete old = option_map (λ d. put d) old
 
   -- the patch that brings a map back

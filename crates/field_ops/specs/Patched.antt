@@ -3,7 +3,7 @@ use Rattle.std.specs.Prelude.{ℕ, List, ◌++◌, length, nat_eq, if◌then◌e
 use Rattle.rooms_val.specs.Data.{Data, null, boolean, whole, text, list, map, Pairs, items_of, list_of}
 use Rattle.rooms_val.specs.Kinds.{on_map}
 use Rattle.rooms_val.specs.Maps.{value_at, set_at}
-use Rattle.field_ops.specs.ValueOps.{ValueOpTree, put, patch, append, delete, ValueOpTrees, no_edits, edit_at, edits_of}
+use Rattle.field_ops.specs.ValueOps.{ValueOpTree, put, patch, append, append_text, delete, ValueOpTrees, no_edits, edit_at, edits_of}
 use Rattle.field_ops.specs.RecordOps as change
 
 -- a list of length n followed by another; what is no such list stays
@@ -15,12 +15,22 @@ appended ds n (text s) = text s
 appended ds n (list es) = if nat_eq (length (list_of es)) n then list (items_of (list_of es ++ ds)) else list es
 appended ds n (map ms) = map ms
 
+-- a text of n bytes followed by another; what is no such text stays
+abbrev pub lengthened : List ℕ → ℕ → Data → Data
+lengthened more n null = null
+lengthened more n (boolean b) = boolean b
+lengthened more n (whole z) = whole z
+lengthened more n (text s) = if nat_eq (length s) n then text (s ++ more) else text s
+lengthened more n (list es) = list es
+lengthened more n (map ms) = map ms
+
 abbrev mutual
   -- what an operation makes of the value at a key, or of no value
   pub edited : ValueOpTree → Option Data → Option Data
   edited (put d) old = Some d
   edited (patch es) old = option_map (on_map (λ f. patched es f)) old
   edited (append ds n) old = option_map (appended ds n) old
+  edited (append_text s n) old = option_map (lengthened s n) old
   edited delete old = None
 
   -- the map with each key that a patch names set to what its operation makes of the key's value

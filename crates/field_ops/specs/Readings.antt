@@ -12,13 +12,14 @@ use Rattle.field_ops.specs.RecordOps.{RecordOpTree, RecordOps}
 abbrev pub if_named : {A : Type 0} → List ℕ → List ℕ → Option A → Option A
 if_named name given found = if bytes_eq given name then found else None
 
--- `["append",list,offset]`, with an offset of 32 bits
+-- `["append",list,offset]` or `["append",text,offset]`, with an offset of 32 bits
 abbrev pub append_of : List ℕ → Data → Data → Option ValueOpTree
 append_of name (value.list ds) (value.whole (pos n)) = if nat_lt n (2 ^ 32) then if_named (codes "append") name (Some (edit.append (list_of ds) n)) else None
+append_of name (value.text s) (value.whole (pos n)) = if nat_lt n (2 ^ 32) then if_named (codes "append") name (Some (edit.append_text s n)) else None
 append_of name _ _ = None
 
 abbrev mutual
-  -- the operation on a value: `["put",v]`, `["patch",{..}]`, `["append",list,offset]` or `["delete"]`
+  -- the operation on a value: `["put",v]`, `["patch",{..}]`, `["append",list,offset]`, `["append",text,offset]` or `["delete"]`
   pub value_op_of_data : Data → Option ValueOpTree
   value_op_of_data (value.list (value.item (value.text name) value.no_items)) = if_named (codes "delete") name (Some edit.delete)
   value_op_of_data (value.list (value.item (value.text name) (value.item (value.map ms) value.no_items))) =

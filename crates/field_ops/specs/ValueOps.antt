@@ -8,6 +8,7 @@ mutual
     put : Data → ValueOpTree
     patch : ValueOpTrees → ValueOpTree
     append : List Data → ℕ → ValueOpTree
+    append_text : List ℕ → ℕ → ValueOpTree
     delete : ValueOpTree
 
   pub data ValueOpTrees : Type 0 where
@@ -19,6 +20,7 @@ abbrev pub edit_name : ValueOpTree → List ℕ
 edit_name (put d) = codes "put"
 edit_name (patch es) = codes "patch"
 edit_name (append ds n) = codes "append"
+edit_name (append_text s n) = codes "append"
 edit_name delete = codes "delete"
 
 -- the keys that a patch names with their operations, in order
@@ -39,6 +41,7 @@ abbrev mutual
   IsSoundEdit (put d) = IsSound d
   IsSoundEdit (patch es) = AreRising (patch_of es) × AreSoundEdits es
   IsSoundEdit (append ds n) = AreSoundItems (items_of ds) × (n < 2 ^ 32)
+  IsSoundEdit (append_text s n) = n < 2 ^ 32
   IsSoundEdit delete = Unit {0}
 
   pub AreSoundEdits : ValueOpTrees → Type 0
@@ -55,6 +58,7 @@ abbrev mutual
   edit_depth (put d) = 0
   edit_depth (patch es) = suc (edits_depth es)
   edit_depth (append ds n) = 0
+  edit_depth (append_text s n) = 0
   edit_depth delete = 0
 
   pub edits_depth : ValueOpTrees → ℕ
@@ -67,6 +71,7 @@ abbrev mutual
   edit_has_append (put d) = false
   edit_has_append (patch es) = edits_have_append es
   edit_has_append (append ds n) = true
+  edit_has_append (append_text s n) = true
   edit_has_append delete = false
 
   pub edits_have_append : ValueOpTrees → Bool

@@ -4,7 +4,7 @@ use Rattle.rooms_val.specs.Data.{Data}
 use Rattle.rooms_val.specs.Maps.{seen}
 use Rattle.rooms_val.specs.View.{data_of}
 use Rattle.rooms_val.specs.declared.val.Val.{Val}
-use Rattle.field_ops.specs.ValueOps.{ValueOpTree, put, patch, append, delete, edits_of, Patch}
+use Rattle.field_ops.specs.ValueOps.{ValueOpTree, put, patch, append, append_text, delete, edits_of, Patch}
 use Rattle.field_ops.specs.declared.value_op.ValueOp.{ValueOp}
 use Rattle.field_ops.specs.declared.value_op.ValueOp.TheVariants as v
 
@@ -12,6 +12,7 @@ abbrev pub edit_of : ValueOp → ValueOpTree
 edit_of (v.Put val) = put (data_of val)
 edit_of (v.Patch p) = patch (edits_of p)
 edit_of (v.Append ds n) = append ds n
+edit_of (v.AppendText s n) = append_text s n
 edit_of v.Delete = delete
 
 abbrev pub patch_view : List (List ℕ × ValueOp) → Patch

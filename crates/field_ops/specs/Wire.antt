@@ -6,18 +6,32 @@ use Rattle.rooms_val.specs.Data.{Data, null, boolean, whole, text, list, map, It
 use Rattle.rooms_val.specs.Code.{coded_data}
 use Rattle.rooms_val.specs.Maps.{seen}
 use Rattle.rooms_val.proofs.DataLemmas.{list_of-items_of}
-use Rattle.field_ops.specs.ValueOps.{ValueOpTree, put, patch, append, delete, ValueOpTrees, no_edits, edit_at, Patch}
+use Rattle.field_ops.specs.ValueOps.{ValueOpTree, put, patch, append, append_text, delete, ValueOpTrees, no_edits, edit_at, Patch}
 
 -- the list of a name and what follows it
 abbrev pub named : List ℕ → Items → Data
 named name ds = list (item (text name) ds)
+
+-- the value of an append: what is appended, and the offset
+abbrev pub append_data : Data → ℕ → Data
+append_data what n = named (codes "append") (item what (item (whole (pos n)) no_items))
+
+-- what is appended is a list or a text
+abbrev pub IsAppendable : Data → Type 0
+IsAppendable null = ⊥
+IsAppendable (boolean b) = ⊥
+IsAppendable (whole z) = ⊥
+IsAppendable (text s) = Unit {0}
+IsAppendable (list ds) = Unit {0}
+IsAppendable (map ms) = ⊥
 
 abbrev mutual
   -- the value of an operation on a value
   pub edit_data : ValueOpTree → Data
   edit_data (put d) = named (codes "put") (item d no_items)
   edit_data (patch es) = named (codes "patch") (item (map (edits_data es)) no_items)
-  edit_data (append ds n) = named (codes "append") (item (list (items_of ds)) (item (whole (pos n)) no_items))
+  edit_data (append ds n) = append_data (list (items_of ds)) n
+  edit_data (append_text s n) = append_data (text s) n
   edit_data delete = named (codes "delete") no_items
 
   -- the map of a patch
@@ -39,6 +53,7 @@ abbrev mutual
   edit_in (list (item (text name) (item (map ms) no_items))) = if nat_eq (length name) 5 then patch (edits_in ms) else put (map ms)
   edit_in (list (item name (item d no_items))) = put d
   edit_in (list (item name (item (list ds) (item (whole z) no_items)))) = append (list_of ds) (number_in z)
+  edit_in (list (item name (item (text s) (item (whole z) no_items)))) = append_text s (number_in z)
   edit_in d = delete
 
   pub edits_in : Members → ValueOpTrees
@@ -60,6 +75,7 @@ abbrev mutual
   edit_in-edit_data (put d) = put_in d
   edit_in-edit_data (patch es) = ap patch (edits_in-edits_data es)
   edit_in-edit_data (append ds n) = ap (λ l. append l n) (list_of-items_of ds)
+  edit_in-edit_data (append_text s n) = refl
   edit_in-edit_data delete = refl
 
   pub edits_in-edits_data : (es : ValueOpTrees) → edits_in (edits_data es) ≡ es

@@ -7,7 +7,7 @@ ghost use Rattle.field_ops.specs.ValueOps.{edits_of};
 ghost use Rattle.field_ops.specs.View.{edit_of, maybe_data};
 ghost use Rattle.field_ops.specs.ViewRecordOps.{change_of};
 ghost use Rattle.rooms_val.specs.Kinds.{on_map};
-ghost use Rattle.field_ops.specs.Patched.{appended, edited, patched, raw};
+ghost use Rattle.field_ops.specs.Patched.{appended, edited, lengthened, patched, raw};
 
 use crate::object_diff::ObjectDiff;
 use crate::record_op::RecordOp;
@@ -84,6 +84,10 @@ fn edited(alloc: Global, old: Option<&Val>, op: &ValueOp) -> Mem<Option<Val>>
             Some(val) => Ok(Some(appended_val(alloc, val, vals, *offset)?)),
             None => Ok(None),
         },
+        ValueOp::AppendText(text, offset) => match old {
+            Some(val) => Ok(Some(lengthened_val(alloc, val, text, *offset)?)),
+            None => Ok(None),
+        },
         ValueOp::Delete => Ok(None),
     }
 }
@@ -98,6 +102,22 @@ fn appended_val(alloc: Global, val: &Val, vals: &Vals, offset: u32) -> Mem<Val>
                 Ok(Val::List(followed(alloc, items, vals)?))
             } else {
                 Ok(Val::List(items.copy(alloc)?))
+            }
+        }
+        _ => Ok(val.copy(alloc)?),
+    }
+}
+
+// A text of the offset's length in bytes followed by the other. What is no such text stays as it is.
+fn lengthened_val(alloc: Global, val: &Val, more: &Text, offset: u32) -> Mem<Val>
+    ensures { IfOk result (λ v. data_of v ≡ lengthened more.now offset (data_of val.now)) }
+{
+    match val {
+        Val::Text(text) => {
+            if text.as_str().len() == offset as usize {
+                Ok(Val::Text(text.followed_by(alloc, more)?))
+            } else {
+                Ok(Val::Text(text.copy(alloc)?))
             }
         }
         _ => Ok(val.copy(alloc)?),

@@ -87,6 +87,7 @@ fn after(alloc: Global, first: &ValueOp, second: &ValueOp) -> Mem<ValueOp>
         ValueOp::Put(val) => Ok(ValueOp::Put(patched_val(alloc, val, diff)?)),
         ValueOp::Patch(earlier) => Ok(ValueOp::Patch(both(alloc, earlier, diff)?)),
         ValueOp::Append(_, _) => Ok(first.copy(alloc)?),
+        ValueOp::AppendText(_, _) => Ok(first.copy(alloc)?),
         ValueOp::Delete => Ok(ValueOp::Delete),
     }
 }

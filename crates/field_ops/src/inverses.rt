@@ -68,6 +68,7 @@ fn undo(alloc: Global, old: Option<&Val>, op: &ValueOp) -> Mem<Option<ValueOp>>
             ValueOp::Put(_) => Ok(Some(ValueOp::Delete)),
             ValueOp::Patch(_) => Ok(None),
             ValueOp::Append(_, _) => Ok(None),
+            ValueOp::AppendText(_, _) => Ok(None),
             ValueOp::Delete => Ok(None),
         };
     };
@@ -75,6 +76,7 @@ fn undo(alloc: Global, old: Option<&Val>, op: &ValueOp) -> Mem<Option<ValueOp>>
         ValueOp::Put(_) => Ok(Some(ValueOp::Put(val.copy(alloc)?))),
         ValueOp::Patch(diff) => undo_patch(alloc, val, diff),
         ValueOp::Append(_, offset) => undo_append(alloc, val, *offset),
+        ValueOp::AppendText(_, offset) => undo_append_text(alloc, val, *offset),
         ValueOp::Delete => Ok(Some(ValueOp::Put(val.copy(alloc)?))),
     }
 }
@@ -96,6 +98,22 @@ fn undo_append(alloc: Global, val: &Val, offset: u32) -> Mem<Option<ValueOp>>
 {
     match val {
         Val::List(items) => undo_longer(alloc, items, offset),
+        _ => Ok(None),
+    }
+}
+
+// An append takes effect on a text of the offset's length in bytes alone.
+fn undo_append_text(alloc: Global, val: &Val, offset: u32) -> Mem<Option<ValueOp>>
+    ensures { IfOk result (λ u. maybe_edit u ≡ inverted.of_text offset (data_of val.now)) }
+{
+    match val {
+        Val::Text(text) => {
+            if text.as_str().len() == offset as usize {
+                Ok(Some(ValueOp::Put(Val::Text(text.copy(alloc)?))))
+            } else {
+                Ok(None)
+            }
+        }
         _ => Ok(None),
     }
 }

@@ -59,6 +59,7 @@ impl RecordOp {
             ValueOp::Put(val) => Ok(RecordOp::Put(val)),
             ValueOp::Patch(diff) => Ok(RecordOp::Patch(diff)),
             ValueOp::Append(_, _) => Err(OpFault::WrongKind),
+            ValueOp::AppendText(_, _) => Err(OpFault::WrongKind),
             ValueOp::Delete => Err(OpFault::WrongKind),
         }
     }

@@ -1,13 +1,14 @@
 //! Operations on the value at a key.
 ghost use Rattle.std.specs.Prelude.{◌≡◌, ◌<◌, ◌^◌, ◌∷◌, [], List, ℕ, pos, IfOk, IfErr};
-ghost use Rattle.rooms_val.specs.Data.{Data, items_of, list, map, whole};
+ghost use Rattle.rooms_val.specs.Data.{Data, map, whole};
 ghost use Rattle.rooms_val.specs.View.{data_of, items_view};
 ghost use Rattle.field_ops.specs.ValueOps.{ValueOpTree, Patch, edits_of, IsSoundPatch};
-ghost use Rattle.field_ops.specs.Wire.{edit_data, edits_data};
+ghost use Rattle.field_ops.specs.View.{edit_of};
+ghost use Rattle.field_ops.specs.Wire.{append_data, edit_data, edits_data, IsAppendable};
 
 use crate::object_diff::ObjectDiff;
 use crate::parts::{arguments, named, single, with};
-use rooms_val::{Mem, OpFault, Val, Vals};
+use rooms_val::{Mem, OpFault, Text, Val, Vals};
 use std::alloc::Global;
 
 /// What happens to the value at a key of a map.
@@ -20,13 +21,14 @@ pub enum ValueOp {
     Patch(ObjectDiff),
     /// The list under the key is followed by the values. Where no list of that length is there, nothing happens.
     Append(Vals, u32),
+    /// The text under the key is followed by the text. Where no text of that many bytes is there, nothing happens.
+    AppendText(Text, u32),
     /// The key is taken away.
     Delete,
 }
 
 impl ValueOp {
     ghost use Rattle.field_ops.specs.ValueOps.{edit_name, edit_has_append, IsSoundEdit};
-    ghost use Rattle.field_ops.specs.View.{edit_of};
 
     /// Its name: `put`, `patch`, `append` or `delete`.
     pub fn name(&self) -> &'static str
@@ -46,6 +48,10 @@ impl ValueOp {
                 let _ = (vals.len(), *offset);
                 "append"
             }
+            ValueOp::AppendText(text, offset) => {
+                let _ = (text.as_str().len(), *offset);
+                "append"
+            }
             ValueOp::Delete => "delete",
         }
     }
@@ -61,10 +67,16 @@ impl ValueOp {
                 named(alloc, "patch")?,
                 Val::Map(diff.to_fields(alloc)?),
             )?)),
-            ValueOp::Append(vals, offset) => {
-                let parts = with(named(alloc, "append")?, Val::List(vals.copy(alloc)?))?;
-                Ok(Val::List(with(parts, Val::Int(i64::from(*offset)))?))
-            }
+            ValueOp::Append(vals, offset) => append_val(
+                alloc,
+                Val::List(vals.copy(alloc)?),
+                *offset,
+            ),
+            ValueOp::AppendText(text, offset) => append_val(
+                alloc,
+                Val::Text(text.copy(alloc)?),
+                *offset,
+            ),
             ValueOp::Delete => Ok(Val::List(named(alloc, "delete")?)),
         }
     }
@@ -84,8 +96,8 @@ impl ValueOp {
             return Ok(ValueOp::Patch(read_patch(alloc, args)?));
         }
         if let Some(args) = arguments(val, "append") {
-            let (vals, offset) = read_append(args)?;
-            return Ok(ValueOp::Append(vals.copy(alloc)?, offset));
+            let (what, offset) = read_append(args)?;
+            return append_of(alloc, what, offset);
         }
         if let Some(args) = arguments(val, "delete") {
             return if args.is_empty() {
@@ -106,6 +118,7 @@ impl ValueOp {
             ValueOp::Put(_) => false,
             ValueOp::Patch(diff) => diff.has_append(),
             ValueOp::Append(_, _) => true,
+            ValueOp::AppendText(_, _) => true,
             ValueOp::Delete => false,
         }
     }
@@ -119,6 +132,7 @@ impl ValueOp {
             ValueOp::Put(val) => ValueOp::Put(val.copy(alloc)?),
             ValueOp::Patch(diff) => ValueOp::Patch(diff.copy(alloc)?),
             ValueOp::Append(vals, offset) => ValueOp::Append(vals.copy(alloc)?, *offset),
+            ValueOp::AppendText(text, offset) => ValueOp::AppendText(text.copy(alloc)?, *offset),
             ValueOp::Delete => ValueOp::Delete,
         })
     }
@@ -136,22 +150,39 @@ fn read_patch(alloc: Global, args: &[Val]) -> Result<ObjectDiff, OpFault>
     }
 }
 
-// What an append holds: a list, and an offset of 32 bits.
-fn read_append(args: &[Val]) -> Result<(&Vals, u32), OpFault>
-    ensures found { IfOk result (λ a. items_view args.now ≡ list (items_of a.0.now) ∷ whole (pos a.1) ∷ []) }
-    ensures only { IfErr result (λ e. (e ≡ OpFault.WrongKind) × ((ds : List Data) (n : ℕ) → n < 2 ^ 32 → ¬ (items_view args.now ≡ list (items_of ds) ∷ whole (pos n) ∷ []))) }
+// What is appended, and an offset of 32 bits.
+fn read_append(args: &[Val]) -> Result<(&Val, u32), OpFault>
+    ensures found { IfOk result (λ a. items_view args.now ≡ data_of a.0.now ∷ whole (pos a.1) ∷ []) }
+    ensures only { IfErr result (λ e. (e ≡ OpFault.WrongKind) × ((d : Data) (n : ℕ) → n < 2 ^ 32 → ¬ (items_view args.now ≡ d ∷ whole (pos n) ∷ []))) }
 {
-    let Some((first, rest)) = args.split_first() else {
-        return Err(OpFault::WrongKind);
-    };
-    let Val::List(vals) = first else {
+    let Some((what, rest)) = args.split_first() else {
         return Err(OpFault::WrongKind);
     };
     let Val::Int(number) = single(rest)? else {
         return Err(OpFault::WrongKind);
     };
     match u32::try_from(*number) {
-        Ok(offset) => Ok((vals, offset)),
+        Ok(offset) => Ok((what, offset)),
         Err(_) => Err(OpFault::WrongKind),
     }
+}
+
+// The append of a list or a text. `WrongKind` exactly where the value is neither, or `OutOfMemory`.
+fn append_of(alloc: Global, what: &Val, offset: u32) -> Result<ValueOp, OpFault>
+    ensures found { IfOk result (λ op. edit_data (edit_of op) ≡ append_data (data_of what.now) offset) }
+    ensures only { result ≡ Err OpFault.WrongKind → ¬ IsAppendable (data_of what.now) }
+{
+    match what {
+        Val::List(vals) => Ok(ValueOp::Append(vals.copy(alloc)?, offset)),
+        Val::Text(text) => Ok(ValueOp::AppendText(text.copy(alloc)?, offset)),
+        _ => Err(OpFault::WrongKind),
+    }
+}
+
+// The value of an append.
+fn append_val(alloc: Global, what: Val, offset: u32) -> Mem<Val>
+    ensures { IfOk result (λ v. data_of v ≡ append_data (data_of what) offset) }
+{
+    let parts = with(named(alloc, "append")?, what)?;
+    Ok(Val::List(with(parts, Val::Int(i64::from(offset)))?))
 }

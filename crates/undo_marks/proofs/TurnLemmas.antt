@@ -6,7 +6,7 @@ use Rattle.rooms_val.specs.Data.{Data, IsSound}
 use Rattle.rooms_val.specs.Kinds.{on_map}
 use Rattle.rooms_val.specs.Maps.{value_at, AreRising, ties}
 use Rattle.rooms_val.proofs.MapsLemmas.{same_pairs}
-use Rattle.field_ops.specs.ValueOps.{ValueOpTree, put, patch, append, delete, ValueOpTrees, no_edits, edit_at, edits_of, patch_of, Patch, edit_has_append, edits_have_append, IsSoundEdit, AreSoundEdits, IsSoundPatch}
+use Rattle.field_ops.specs.ValueOps.{ValueOpTree, put, patch, append, append_text, delete, ValueOpTrees, no_edits, edit_at, edits_of, patch_of, Patch, edit_has_append, edits_have_append, IsSoundEdit, AreSoundEdits, IsSoundPatch}
 use Rattle.field_ops.specs.RecordOps as change
 use Rattle.field_ops.specs.RecordOps.{RecordOpTree, RecordOps, has_append, IsSoundChange}
 use Rattle.field_ops.specs.Patched.{patched}
@@ -70,9 +70,11 @@ patch_twice q p d later earlier sound = sym (same_Some _ _ (does_both (change.pa
 turns_patch : (q : Patch) → ((k : List ℕ) (e : ValueOpTree) → value_at q k ≡ Some e → Turns e) → Turns (patch (edits_of q))
 turns_patch q each later (put d) a earlier sound = refl
 turns_patch q each later (append ds n) a earlier sound = refl
+turns_patch q each later (append_text s n) a earlier sound = refl
 turns_patch q each later delete a earlier sound = refl
 turns_patch q each later (patch es) delete earlier sound = refl
 turns_patch q each later (patch es) (append ds n) earlier sound = refl
+turns_patch q each later (patch es) (append_text s n) earlier sound = refl
 turns_patch q each later (patch es) (put d) earlier sound =
     let p = patch_of es in
     let back = edits_of-patch_of es in
@@ -87,7 +89,7 @@ turns_patch q each later (patch es) (patch fs) earlier sound =
     ∙ ap (λ x. patch (edits_of x)) (turns_map q p r each later (ap edits_have_append back ∙ earlier) sound.0 (subst AreSoundEdits (sym (edits_of-patch_of fs)) sound.1))
 
 turns : (c : ValueOpTree) → Turns c
-turns = every Turns (λ d later b a earlier sound. refl) turns_patch (λ ds n later b a earlier sound. refl) (λ later b a earlier sound. refl)
+turns = every Turns (λ d later b a earlier sound. refl) turns_patch (λ ds n later b a earlier sound. refl) (λ s n later b a earlier sound. refl) (λ later b a earlier sound. refl)
 
 -- of operations on records
 in_turn-in_turn : (a b c : RecordOpTree) → has_append c ≡ false → has_append b ≡ false → IsSoundChange a → in_turn (in_turn a b) c ≡ in_turn a (in_turn b c)
@@ -118,7 +120,7 @@ repeats_patch p each sound plain =
     ap (λ x. patch (edits_of (both (edits_of p) x))) same ∙ ap (λ x. patch (edits_of x)) (repeats_map p each (subst AreRising same sound.0) sound.1 plain)
 
 repeats : (e : ValueOpTree) → Repeats e
-repeats = every Repeats (λ d sound plain. refl) repeats_patch (λ ds n sound plain. refl) (λ sound plain. refl)
+repeats = every Repeats (λ d sound plain. refl) repeats_patch (λ ds n sound plain. refl) (λ s n sound plain. refl) (λ sound plain. refl)
 
 in_turn_itself : (c : RecordOpTree) → IsSoundChange c → has_append c ≡ false → in_turn c c ≡ c
 in_turn_itself (change.put d) sound plain = refl
@@ -155,8 +157,10 @@ mutual
       subst (λ t. IsSound (on_map (λ f. patched t f) x)) (edits_of-patch_of es) (sound_raw (change.patch (patch_of es)) (Some x) (subst (λ t. IsSoundEdit (patch t)) t later) first)
   sound_after (patch es) (patch fs) later first = sound_both es (patch_of fs) later.1 (subst (λ t. IsSoundEdit (patch t)) (sym (edits_of-patch_of fs)) first)
   sound_after (patch es) (append ds n) later first = first
+  sound_after (patch es) (append_text s n) later first = first
   sound_after (patch es) delete later first = first
   sound_after (append ds n) d later first = later
+  sound_after (append_text s n) d later first = later
   sound_after delete d later first = later
 
   sound_both : (es : ValueOpTrees) (p : Patch) → AreSoundEdits es → IsSoundPatch p → IsSoundPatch (both es p)

@@ -5,7 +5,7 @@ use Rattle.rooms_val.specs.Maps.{with_key}
 use Rattle.field_ops.specs.View.{edit_of}
 use Rattle.field_ops.specs.Wire.{edit_data, patch_pairs}
 use Rattle.rooms_val.proofs.MapsLemmas.{seen-with_key}
-use Rattle.field_ops.proofs.WireLemmas.{read_at, reads, no_put, no_patch, no_append, no_delete, no_name, no_entry, no_view, one_patch, patch_in_one, depth_entry}
+use Rattle.field_ops.proofs.WireLemmas.{read_at, reads, no_put, no_patch, no_append, no_delete, no_name, no_other, no_entry, no_view, one_patch, patch_in_one, depth_entry}
 use Rattle.rooms_val.proofs.DataLemmas.{rising_pairs}
 use Rattle.field_ops.proofs.SoundLemmas.{rising_fields_slice}
 use Rattle.field_ops.proofs.WalkLemmas.{Going, going_first, going_next, going_done}
@@ -49,8 +49,13 @@ value_op::ValueOp::read-returns-in_err-val-clause-only t c wrong e sound is = no
 pub value_op::ValueOp::read-returns-in_err-read_patch-clause-only : goal.value_op::ValueOp::read-returns-in_err-read_patch-clause-only
 value_op::ValueOp::read-returns-in_err-read_patch-clause-only t c wrong e sound is = no_patch _ _ c.in-Some-arguments.ensures.found (c.in_err-read_patch.ensures.only (let from = rw wrong at c.from_residual-in_err-read_patch.ensures.1 in cc)) e sound is
 
-pub value_op::ValueOp::read-returns-in_err-vals-clause-only : goal.value_op::ValueOp::read-returns-in_err-vals-clause-only
-value_op::ValueOp::read-returns-in_err-vals-clause-only t c wrong e sound is = no_append _ _ c.in-Some-arguments-2.ensures.found c.in_err-vals.ensures.only.1 e sound is
+pub value_op::ValueOp::read-returns-in_err-what-clause-only : goal.value_op::ValueOp::read-returns-in_err-what-clause-only
+value_op::ValueOp::read-returns-in_err-what-clause-only t c wrong e sound is =
+    no_append _ _ c.in-Some-arguments-2.ensures.found (λ x n fits same appendable. c.in_err-what.ensures.only.1 x n fits same) e sound is
+
+pub value_op::ValueOp::read-returns-in-Some-arguments-2-clause-only : goal.value_op::ValueOp::read-returns-in-Some-arguments-2-clause-only
+value_op::ValueOp::read-returns-in-Some-arguments-2-clause-only t c wrong e sound is =
+    no_append _ _ c.in-Some-arguments-2.ensures.found (no_other _ _ _ c.in_ok-what.ensures.found (c.append_of.ensures.only wrong)) e sound is
 
 pub value_op::ValueOp::read-returns-else-is_empty-clause-only : goal.value_op::ValueOp::read-returns-else-is_empty-clause-only
 value_op::ValueOp::read-returns-else-is_empty-clause-only t c wrong e sound is = no_delete _ _ c.in-Some-arguments-3.ensures.found (no_view c.in-Some-arguments-3.args.now c.if-is_empty.ensures) e is
