@@ -1,4 +1,5 @@
 pub mod RowLemmas
+pub mod RecordLemmas
 pub mod SerializedLemmas
 pub mod OrderLemmas
 pub mod PlanLemmas

@@ -1,8 +1,9 @@
 -- What migrations make of a record, up and down.
 use Rattle.std.specs.Prelude.{ℕ, List, [], ◌∷◌, Bool, true, false, ◌&&◌, if◌then◌else◌, Option, Some, None, fold, codes}
 use Rattle.std.specs.Str.{bytes_eq}
-use Rattle.rooms_val.specs.Data.{Data, null, boolean, whole, text, list, map}
+use Rattle.rooms_val.specs.Data.{Data, null, boolean, whole, text, list, map, Pairs}
 use Rattle.rooms_val.specs.Kinds.{field}
+use Rattle.rooms_val.specs.Maps.{seen}
 use Rattle.migrate_seq.specs.declared.migration.Filter.{Filter}
 use Rattle.migrate_seq.specs.declared.migration.Filter.TheVariants.{All, Type_, Kind}
 use Rattle.migrate_seq.specs.declared.migration.Migration.{Migration}
@@ -52,3 +53,11 @@ raised_along ms d = fold (λ e m. migrated Up m e) d ms
 abbrev pub lowered_along : List Migration → Data → Data
 lowered_along [] d = d
 lowered_along (m ∷ ms) d = migrated Down m (lowered_along ms d)
+
+-- a map of records after a migration up: each that its filter lets through after its steps, whatever its scope
+abbrev pub raised_each : Migration → Pairs → Pairs
+raised_each m ps = seen (migrated Up m) ps
+
+-- a map of records after some migrations up, in their order, each on the map that the one before it left
+abbrev pub raised_map : List Migration → Pairs → Pairs
+raised_map ms ps = fold (λ qs m. raised_each m qs) ps ms

@@ -5,3 +5,9 @@ ghost use Rattle.migrate_seq.specs.Laws as laws;
 pub fn one_schema_each()
     ensures { laws.OneSchemaEach }
 {}
+
+/// In a map after some migrations up each record is what they make of it alone. So going through the map once a
+/// migration is going through the migrations record by record.
+pub fn each_record_alone()
+    ensures { laws.EachRecordAlone }
+{}

@@ -1,15 +1,16 @@
 //! Migrations, and what one makes of a record.
-ghost use Rattle.std.specs.Prelude.{◌≡◌, IsTrue, IfOk};
+ghost use Rattle.std.specs.Prelude.{◌≡◌, IsTrue, IfOk, OnOk};
 ghost use Rattle.std.specs.List.{list_all};
 ghost use Rattle.rooms_val.specs.Data.{Data};
 ghost use Rattle.rooms_val.specs.Kinds.{field};
+ghost use Rattle.rooms_val.specs.Maps.{with_key};
 ghost use Rattle.rooms_val.specs.View.{data_of};
 ghost use Rattle.migrate_seq.specs.Steps.{can_scale};
-ghost use Rattle.migrate_seq.specs.Records.{has_text, passes, raised, lowered, migrated};
+ghost use Rattle.migrate_seq.specs.Records.{has_text, passes, raised, lowered, migrated, raised_each};
 
 use crate::row::walk;
 use crate::step::{MigStep, Way};
-use rooms_val::{Mem, Text, Val};
+use rooms_val::{Fields, Mem, Text, Val};
 use std::alloc::Global;
 
 /// Which records a migration changes; it is tested on the record as the migration meets it.
@@ -69,6 +70,37 @@ pub(crate) fn migrate(alloc: Global, migration: &Migration, way: Way, record_: V
         Way::Up => raise(alloc, &migration.steps, record_),
         Way::Down => lower(alloc, &migration.steps, record_),
     }
+}
+
+// A map of records after a migration up, in one pass.
+pub(crate) fn migrate_each(alloc: Global, migration: &Migration, records: Fields) -> Mem<Fields>
+    requires { IsTrue (list_all can_scale migration.now.steps.items) }
+    ensures { IfOk result (λ m. m ≡ raised_each migration.now records) }
+{
+    // That the ids rise is told by the length.
+    let _ = records.len();
+    let mut after = Fields::new(alloc);
+    'records: for (id, record_) in records.into_vec()? {
+        put_raised(alloc, migration, id, record_, &mut after)?;
+    }
+    Ok(after)
+}
+
+// Puts a record after a migration up under its id.
+fn put_raised(
+    alloc: Global,
+    migration: &Migration,
+    id: Text,
+    record_: Val,
+    records: &mut Fields,
+) -> Mem<()>
+    requires { IsTrue (list_all can_scale migration.now.steps.items) }
+    ensures { OnOk result (records.new
+        ≡ with_key records.old id (migrated Way.Up migration.now (data_of record_))) }
+{
+    let raised = migrate(alloc, migration, Way::Up, record_)?;
+    records.put(id, raised)?;
+    Ok(())
 }
 
 fn raise(alloc: Global, steps: &[MigStep], record_: Val) -> Mem<Val>

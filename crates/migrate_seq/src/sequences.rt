@@ -7,19 +7,19 @@ ghost use Rattle.migrate_seq.specs.declared.fault.PlanFault.TheVariants as plan_
 ghost use Rattle.migrate_seq.specs.declared.fault.SeqFault.TheVariants as seq_fault;
 ghost use Rattle.migrate_seq.specs.Builds.{built, have_rising_ids};
 ghost use Rattle.migrate_seq.specs.Steps.{can_scale};
-ghost use Rattle.migrate_seq.specs.Records.{raised_along, lowered_along};
+ghost use Rattle.migrate_seq.specs.Records.{raised_along, raised_map, lowered_along};
 ghost use Rattle.migrate_seq.specs.Plans.{migration_at, migrations_at, is_acyclic, can_all_scale, plan_answer, IsPlan, newest_versions, are_both_ways, are_of_records};
 ghost use Rattle.migrate_seq.specs.Shown.{places_in, goes_both_ways, is_of_records};
 
 use crate::build::{all_places, bad_id, by_id, doubled, gap, ids_at, unknown};
 use crate::fault::{Ids, PlanFault, SeqFault};
-use crate::migration::{Migration, Sequence, migrate};
+use crate::migration::{Migration, Sequence, migrate, migrate_each};
 use crate::order::{at, take_in_turn};
 use crate::place::Place;
 use crate::plan::{Plan, check, missing};
 use crate::serialized::Serialized;
 use crate::step::Way;
-use rooms_val::{Mem, Val};
+use rooms_val::{Fields, Mem, Val};
 use std::alloc::Global;
 
 /// Sequences in the order of their ids, of which every migration can be run in turn.
@@ -95,6 +95,21 @@ impl Sequences {
         for place in plan.places() {
             if let Some(migration) = self.at(*place) {
                 after = migrate(alloc, migration, Way::Up, after)?;
+            }
+        }
+        Ok(after)
+    }
+
+    /// A map of records by their ids after the migrations of a plan, in their order and whatever their scope: each changes
+    /// the records that its filter matches. It costs a pass over the map for each migration, and a copy of the records
+    /// that are changed; copies of the map share the others.
+    pub fn up_map(&self, alloc: Global, plan: &Plan, records: &Fields) -> Mem<Fields>
+        ensures { IfOk result (λ m. m ≡ raised_map (migrations_at (sequences_of self.now) (places_in plan.now)) records.now) }
+    {
+        let mut after = records.copy(alloc)?;
+        for place in plan.places() {
+            if let Some(migration) = self.at(*place) {
+                after = migrate_each(alloc, migration, after)?;
             }
         }
         Ok(after)
