@@ -1,6 +1,7 @@
 -- What is built of sequences, said of what they stand for.
-use Rattle.std.proofs.Common.{◌≡◌, ℕ, Bool, true, false, not, ◌&&◌, cond, List, [], ◌∷◌, map, filter, fold, length, Option, Some, None, Ok, Err, refl, sym, ap, subst, ◌∙◌}
+use Rattle.std.proofs.Common.{◌≡◌, ℕ, Bool, true, false, not, ◌&&◌, cond, zero, suc, ◌≤◌, ◌<◌, inl, inr, arith, List, [], ◌∷◌, map, filter, fold, length, Option, Some, None, Ok, Err, refl, sym, ap, subst, ◌∙◌}
 use Rattle.std.specs.Prelude.{nat_le, nat_eq, codes}
+use Rattle.std.proofs.lemmas.Bool.{cases_lt, le-leb}
 use Rattle.std.specs.List.{list_all}
 use Rattle.std.proofs.lemmas.List.{length-map}
 use Rattle.std.specs.Ordering.{nat_cmp, is_lt}
@@ -15,7 +16,8 @@ use Rattle.migrate_seq.specs.Builds.{inserted, by_id, ids_at, gap, bad_id, doubl
 use Rattle.migrate_seq.specs.declared.fault.SeqFault.{SeqFault}
 use Rattle.migrate_seq.specs.declared.fault.SeqFault.TheVariants.{Gap, BadId, Doubled, UnknownDependency, Cycle}
 use Rattle.tl_tables.specs.Trees.{StepTree, MigrationTree, SequenceTree, step_tree, migration_tree, sequence_tree, add, remove, rename, map_enum, scale, nest, unnest}
-use Rattle.tl_tables.specs.Migrations.{has_migrations, base_1, shape_1, shape_2, binding_1, sequence_at, base, binding, shape, sequences}
+use Rattle.tl_tables.specs.Migrations.{has_migrations, asset_1, base_1, binding_1, page_1, shape_1, shape_2, sequence_at, asset, base, binding, page, shape, sequences}
+use Rattle.tl_tables.specs.declared.tables.TheConstants.{NEWEST_VERSION}
 
 -- a factor is at least 2
 abbrev pub scales : StepTree → Bool
@@ -52,33 +54,50 @@ all_scale list = all_seen sequence_tree _ sequence_scales (λ s. all_seen migrat
 abbrev kept : List (ℕ × MigrationTree) → List MigrationTree
 kept rows = map (λ m. m.1) rows
 
--- the sequences by whether a version is at least 1, 2 and 3
-abbrev pub tables : Bool → Bool → Bool → List SequenceTree
-tables one two three = filter has_migrations (
-    record { id = codes "rooms.base"; retroactive = true; migrations = kept (cond one ((1, base_1) ∷ []) []) }
+-- the sequences by whether a version is at least 1, 2 and so on
+abbrev tables : Bool → Bool → Bool → Bool → Bool → List SequenceTree
+tables one two three four five = filter has_migrations (
+    record { id = codes "rooms.asset"; retroactive = true; migrations = kept (cond four ((4, asset_1) ∷ []) []) }
+    ∷ record { id = codes "rooms.base"; retroactive = true; migrations = kept (cond one ((1, base_1) ∷ []) []) }
     ∷ record { id = codes "rooms.binding"; retroactive = true; migrations = kept (cond three ((3, binding_1) ∷ []) []) }
+    ∷ record { id = codes "rooms.page"; retroactive = true; migrations = kept (cond five ((5, page_1) ∷ []) []) }
     ∷ record { id = codes "rooms.shape"; retroactive = true; migrations = kept (cond two ((2, shape_1) ∷ cond three ((3, shape_2) ∷ []) []) (cond three ((3, shape_2) ∷ []) [])) }
     ∷ []
     )
 
-pub sequences-tables : (version : ℕ) → sequences version ≡ tables (nat_le 1 version) (nat_le 2 version) (nat_le 3 version)
-unfolding sequences base binding shape sequence_at
+sequences-tables : (version : ℕ) → sequences version ≡ tables (nat_le 1 version) (nat_le 2 version) (nat_le 3 version) (nat_le 4 version) (nat_le 5 version)
+unfolding sequences asset base binding page shape sequence_at
 sequences-tables version = refl
 
--- what holds of the tables at each version
-by_version : (P : List SequenceTree → Type 0) → ((one two three : Bool) → P (tables one two three)) → (version : ℕ) → P (sequences version)
-by_version P each version = subst P (sym (sequences-tables version)) (each (nat_le 1 version) (nat_le 2 version) (nat_le 3 version))
+-- above the newest version they stay as they are
+sequences-above : (version : ℕ) → NEWEST_VERSION < version → sequences version ≡ sequences NEWEST_VERSION
+unfolding sequences asset base binding page shape sequence_at
+sequences-above version high =
+    sequences-tables version
+    ∙ λ i. tables (le-leb 1 version (omega arith) i) (le-leb 2 version (omega arith) i) (le-leb 3 version (omega arith) i) (le-leb 4 version (omega arith) i) (le-leb 5 version (omega arith) i)
 
-all_scaled : (one two three : Bool) → list_all sequence_scales (tables one two three) ≡ true
-unfolding base_1 shape_1 shape_2 binding_1
-all_scaled true true true = refl
-all_scaled true true false = refl
-all_scaled true false true = refl
-all_scaled true false false = refl
-all_scaled false true true = refl
-all_scaled false true false = refl
-all_scaled false false true = refl
-all_scaled false false false = refl
+-- it holds of each number up to one
+abbrev pub UpTo : (ℕ → Type 0) → ℕ → Type 0
+UpTo P zero = P zero
+UpTo P (suc n) = UpTo P n × P (suc n)
+
+up_to : (P : ℕ → Type 0) (m : ℕ) → UpTo P m → (n : ℕ) → n ≤ m → P n
+up_to P zero each n low = let none : 0 ≡ n = omega arith in subst P none each
+up_to P (suc m) each n low = elim (cases_lt n (suc m)) [
+  | inl less ↦ up_to P m each.0 n (omega arith)
+  | inr last ↦ let same : suc m ≡ n = omega arith in subst P same each.1
+]
+
+-- what holds of the tables at each version, up to the newest one
+pub by_version : (P : List SequenceTree → Type 0) → UpTo (λ n. P (sequences n)) NEWEST_VERSION → (version : ℕ) → P (sequences version)
+by_version P each version = elim (cases_lt NEWEST_VERSION version) [
+  | inl high ↦ subst P (sym (sequences-above version high)) (up_to (λ n. P (sequences n)) NEWEST_VERSION each NEWEST_VERSION (omega arith))
+  | inr low ↦ up_to (λ n. P (sequences n)) NEWEST_VERSION each version low
+]
+
+all_scaled : UpTo (λ n. list_all sequence_scales (sequences n) ≡ true) NEWEST_VERSION
+unfolding sequences asset base binding page shape sequence_at asset_1 base_1 binding_1 page_1 shape_1 shape_2
+all_scaled = (((((refl, refl), refl), refl), refl), refl)
 
 -- each factor in the tables is at least 2
 pub tables_scale : (version : ℕ) → list_all sequence_scales (sequences version) ≡ true
@@ -100,15 +119,9 @@ sorted_from : (list sorted : List Sequence) → map sequence_tree (fold (λ ts s
 sorted_from [] sorted = refl
 sorted_from (s ∷ list) sorted = sorted_from list (inserted s sorted) ∙ ap (λ ts. fold (λ us t. placed t us) ts (map sequence_tree list)) (inserted_seen s sorted)
 
-all_in_order : (one two three : Bool) → fold (λ ts s. placed s ts) [] (tables one two three) ≡ tables one two three
-all_in_order true true true = refl
-all_in_order true true false = refl
-all_in_order true false true = refl
-all_in_order true false false = refl
-all_in_order false true true = refl
-all_in_order false true false = refl
-all_in_order false false true = refl
-all_in_order false false false = refl
+all_in_order : UpTo (λ n. fold (λ ts s. placed s ts) [] (sequences n) ≡ sequences n) NEWEST_VERSION
+unfolding sequences asset base binding page shape sequence_at
+all_in_order = (((((refl, refl), refl), refl), refl), refl)
 
 -- the sequences of the tables stand in the order of their ids
 in_order : (version : ℕ) → fold (λ ts s. placed s ts) [] (sequences version) ≡ sequences version
@@ -150,7 +163,9 @@ pub filled_seen : (list : List Sequence) → map sequence_tree (filter is_filled
 filled_seen = filtered_seen is_filled (λ s. ap (λ n. not (nat_eq n 0)) (s.migrations.ok.0 ∙ sym (length-map s.migrations.items migration_tree)))
 
 -- a list of what stands for each sequence of the tables that has migrations
-pub seen : (version : ℕ) (list kept : List Sequence) (b n s : Sequence) → list ≡ b ∷ n ∷ s ∷ [] → sequence_tree b ≡ base version → sequence_tree n ≡ binding version → sequence_tree s ≡ shape version
+pub seen : (version : ℕ) (list kept : List Sequence) (a b n p s : Sequence) → list ≡ a ∷ b ∷ n ∷ p ∷ s ∷ []
+    → sequence_tree a ≡ asset version → sequence_tree b ≡ base version → sequence_tree n ≡ binding version → sequence_tree p ≡ page version → sequence_tree s ≡ shape version
     → map sequence_tree kept ≡ filter has_migrations (map sequence_tree list) → map sequence_tree kept ≡ sequences version
 unfolding sequences
-seen version list kept b n s is first second third left = left ∙ ap (λ l. filter has_migrations (map sequence_tree l)) is ∙ λ i. filter has_migrations (first i ∷ second i ∷ third i ∷ [])
+seen version list kept a b n p s is first second third fourth fifth left =
+    left ∙ ap (λ l. filter has_migrations (map sequence_tree l)) is ∙ λ i. filter has_migrations (first i ∷ second i ∷ third i ∷ fourth i ∷ fifth i ∷ [])

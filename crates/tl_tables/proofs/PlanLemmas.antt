@@ -17,7 +17,7 @@ use Rattle.migrate_seq.specs.declared.fault.PlanFault.TheVariants.{TooNew, Unkno
 use Rattle.migrate_seq.specs.declared.migration.Migration.{Migration}
 use Rattle.migrate_seq.specs.declared.migration.Sequence.{Sequence}
 use Rattle.migrate_seq.specs.declared.place.Place.{Place}
-use Rattle.tl_tables.specs.Migrations.{base_1, shape_1, shape_2, binding_1, sequence_at, base, binding, shape, sequences}
+use Rattle.tl_tables.specs.Migrations.{asset_1, base_1, binding_1, page_1, shape_1, shape_2, sequence_at, asset, base, binding, page, shape, sequences}
 use Rattle.tl_tables.specs.Trees.{MigrationTree, SequenceTree, migration_tree, sequence_tree}
 use Rattle.tl_tables.specs.declared.tables.TheConstants.{NEWEST_VERSION}
 
@@ -118,7 +118,7 @@ abbrev leads_to : ℕ → ℕ → Bool
 leads_to m n = nat_eq m n || not (is_empty (answer_of (sequences m) (newest_in n)))
 
 all_lead : holds_of_each (λ m. holds_of_each (leads_to m)) ≡ true
-unfolding sequences base binding shape sequence_at base_1 shape_1 shape_2 binding_1
+unfolding sequences asset base binding page shape sequence_at asset_1 base_1 binding_1 page_1 shape_1 shape_2
 all_lead = refl
 
 same_if : (same empty : Bool) → (same || not empty) ≡ true → empty ≡ true → same ≡ true
@@ -166,7 +166,7 @@ abbrev is_newest : ℕ → Bool
 is_newest n = are_same (newest_of [] (sequences n)) (newest_in n)
 
 all_newest : holds_of_each is_newest ≡ true
-unfolding sequences base binding shape sequence_at base_1 shape_1 shape_2 binding_1
+unfolding sequences asset base binding page shape sequence_at asset_1 base_1 binding_1 page_1 shape_1 shape_2
 all_newest = refl
 
 pub newest_are : (n : ℕ) → n ≤ NEWEST_VERSION → newest_of [] (sequences n) ≡ newest_in n

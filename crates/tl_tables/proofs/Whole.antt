@@ -1,7 +1,6 @@
 -- The tables' sequences fit together.
-use Rattle.std.proofs.Common.{◌≡◌, ◌≤◌, ℕ, Bool, true, false, cond, List, [], ◌∷◌, map, length, is_ok, refl, sym, ap, subst, ◌∙◌, arith}
-use Rattle.std.specs.Prelude.{nat_le, codes, Vec}
-use Rattle.std.proofs.lemmas.Bool.{leb-true, le-leb}
+use Rattle.std.proofs.Common.{◌≡◌, ◌≤◌, ℕ, true, List, [], ◌∷◌, map, length, is_ok, refl, sym, ap, subst, ◌∙◌}
+use Rattle.std.specs.Prelude.{Vec}
 use native.Mathlib.Nat.{ℕ_set}
 use native.Mathlib.Bridge.{le_prop}
 use mathlib.Core.HLevel.{×_prop}
@@ -9,8 +8,9 @@ use Rattle.migrate_seq.specs.declared.migration.Migration.{Migration}
 use Rattle.migrate_seq.specs.declared.migration.Sequence.{Sequence}
 use Rattle.migrate_seq.specs.Builds.{built}
 use Rattle.tl_tables.specs.Trees.{MigrationTree, SequenceTree, migration_tree, sequence_tree}
-use Rattle.tl_tables.specs.Migrations.{base_1, shape_1, shape_2, binding_1, sequences}
-use Rattle.tl_tables.proofs.Built.{tables, sequences-tables}
+use Rattle.tl_tables.specs.Migrations.{asset_1, base_1, binding_1, page_1, shape_1, shape_2, sequence_at, asset, base, binding, page, shape, sequences}
+use Rattle.tl_tables.specs.declared.tables.TheConstants.{NEWEST_VERSION}
+use Rattle.tl_tables.proofs.Built.{UpTo, by_version}
 
 -- a vector whose items are written otherwise
 module _ {A Z : Type 0} (v : Vec A Z) where
@@ -85,21 +85,16 @@ sequence_again-is s t is =
 abbrev sequences_again : (ts : List SequenceTree) (list : List Sequence) → map sequence_tree list ≡ ts → List Sequence
 sequences_again = redone sequence_tree sequence_again sequence_again-is
 
-again_fits : (one two three : Bool) → (three ≡ true → two ≡ true) → (list : List Sequence) (is : map sequence_tree list ≡ tables one two three)
-    → is_ok (built (sequences_again (tables one two three) list is)) ≡ true
-unfolding base_1 shape_1 shape_2 binding_1
-again_fits true true true rises list is = refl
-again_fits true true false rises list is = refl
-again_fits true false false rises list is = refl
-again_fits false true true rises list is = refl
-again_fits false true false rises list is = refl
-again_fits false false false rises list is = refl
-again_fits one false true rises list is = let no : false ≡ true = rises refl in (cc)
+-- sequences that stand for these can be built
+abbrev Fits : List SequenceTree → Type 0
+Fits ts = (list : List Sequence) (is : map sequence_tree list ≡ ts) → is_ok (built (sequences_again ts list is)) ≡ true
+
+all_fit : UpTo (λ n. Fits (sequences n)) NEWEST_VERSION
+unfolding sequences asset base binding page shape sequence_at asset_1 base_1 binding_1 page_1 shape_1 shape_2
+all_fit = ((((((λ list is. refl), (λ list is. refl)), (λ list is. refl)), (λ list is. refl)), (λ list is. refl)), (λ list is. refl))
 
 -- what stands for the tables' sequences can be built
 pub fits : (version : ℕ) (list : List Sequence) → map sequence_tree list ≡ sequences version → is_ok (built list) ≡ true
 fits version list seen =
-    let is = seen ∙ sequences-tables version in
-    let ts = tables (nat_le 1 version) (nat_le 2 version) (nat_le 3 version) in
-    ap (λ l. is_ok (built l)) (sym (redone-is sequence_tree sequence_again sequence_again-is ts list is))
-    ∙ again_fits (nat_le 1 version) (nat_le 2 version) (nat_le 3 version) (λ h. le-leb 2 version (let above = leb-true 3 version h in omega arith)) list is
+    ap (λ l. is_ok (built l)) (sym (redone-is sequence_tree sequence_again sequence_again-is (sequences version) list seen))
+    ∙ by_version Fits all_fit version list seen

@@ -1,12 +1,32 @@
 -- The migrations, in sequences.
 use Rattle.std.specs.Prelude.{ℕ, nat_le, nat_eq, List, [], ◌∷◌, Bool, true, false, not, length, map, filter, codes}
-use Rattle.rooms_val.specs.Data.{text}
+use Rattle.rooms_val.specs.Data.{boolean, text}
 use Rattle.migrate_seq.specs.declared.migration.Filter.TheVariants.{All, Type_, Kind}
-use Rattle.migrate_seq.specs.declared.migration.MigScope.TheVariants.{Record}
+use Rattle.migrate_seq.specs.declared.migration.MigScope.TheVariants.{Record, Store}
 use Rattle.tl_tables.specs.Trees.{MigrationTree, SequenceTree, add, rename, map_enum, scale, nest}
+
+unfoldable pub asset_1 : MigrationTree
+asset_1 = record {
+  id = codes "rooms.asset/1";
+  scope = Record;
+  filter = Type_ (codes "asset");
+  steps = nest (codes "props" ∷ []) (codes "h" ∷ codes "w" ∷ []) (codes "dims") ∷ [];
+  has_down = true;
+  depends = [];
+}
 
 unfoldable pub base_1 : MigrationTree
 base_1 = record { id = codes "rooms.base/1"; scope = Record; filter = All; steps = []; has_down = false; depends = [] }
+
+unfoldable pub page_1 : MigrationTree
+page_1 = record {
+  id = codes "rooms.page/1";
+  scope = Store;
+  filter = Type_ (codes "page");
+  steps = add [] (codes "hidden") (boolean false) ∷ [];
+  has_down = false;
+  depends = [];
+}
 
 unfoldable pub shape_1 : MigrationTree
 shape_1 = record {
@@ -51,11 +71,17 @@ present version migrations = map (λ m. m.1) (filter (λ m. nat_le m.0 version) 
 unfoldable pub sequence_at : ℕ → List ℕ → List (ℕ × MigrationTree) → SequenceTree
 sequence_at version id migrations = record { id = id; retroactive = true; migrations = present version migrations }
 
+unfoldable pub asset : ℕ → SequenceTree
+asset version = sequence_at version (codes "rooms.asset") ((4, asset_1) ∷ [])
+
 unfoldable pub base : ℕ → SequenceTree
 base version = sequence_at version (codes "rooms.base") ((1, base_1) ∷ [])
 
 unfoldable pub binding : ℕ → SequenceTree
 binding version = sequence_at version (codes "rooms.binding") ((3, binding_1) ∷ [])
+
+unfoldable pub page : ℕ → SequenceTree
+page version = sequence_at version (codes "rooms.page") ((5, page_1) ∷ [])
 
 unfoldable pub shape : ℕ → SequenceTree
 shape version = sequence_at version (codes "rooms.shape") ((2, shape_1) ∷ (3, shape_2) ∷ [])
@@ -66,4 +92,4 @@ has_migrations s = not (nat_eq (length s.migrations) 0)
 
 -- the sequences of which a migration is there at a version, in the order of their ids
 unfoldable pub sequences : ℕ → List SequenceTree
-sequences version = filter has_migrations (base version ∷ binding version ∷ shape version ∷ [])
+sequences version = filter has_migrations (asset version ∷ base version ∷ binding version ∷ page version ∷ shape version ∷ [])

@@ -14,7 +14,11 @@ document version = row version (codes "document") Document (
     ∷ [])
 
 unfoldable pub page : ℕ → List ℕ × TypeTree
-page version = row version (codes "page") Document (always (codes "name") short_text ∷ always (codes "index") key ∷ [])
+page version = row version (codes "page") Document (
+    always (codes "name") short_text
+    ∷ always (codes "index") key
+    ∷ since 5 (codes "hidden") boolean
+    ∷ [])
 
 unfoldable pub shape : ℕ → List ℕ × TypeTree
 shape version = row version (codes "shape") Document (
@@ -30,10 +34,15 @@ shape version = row version (codes "shape") Document (
     ∷ always (codes "props") (shape_props version)
     ∷ [])
 
+-- the size of an asset, whose sides stood beside the other properties up to version 3
+unfoldable pub dims : ℕ → CheckTree
+dims version = object_at version (always (codes "w") extent ∷ always (codes "h") extent ∷ [])
+
 unfoldable pub asset_props : ℕ → CheckTree
 asset_props version = object_at version (
-    always (codes "w") extent
-    ∷ always (codes "h") extent
+    until 3 (codes "w") extent
+    ∷ until 3 (codes "h") extent
+    ∷ since 4 (codes "dims") (dims version)
     ∷ always (codes "name") short_text
     ∷ always (codes "src") (nullable long_text)
     ∷ always (codes "mimeType") (nullable short_text)

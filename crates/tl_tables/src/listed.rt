@@ -1,6 +1,6 @@
 //! Lists of texts, and the steps of migrations over them.
 ghost use Rattle.std.specs.Prelude.{◌≡◌, IfOk, map, [], ◌∷◌};
-ghost use Rattle.rooms_val.specs.Data as val;
+ghost use Rattle.rooms_val.specs.View.{data_of};
 ghost use Rattle.tl_tables.specs.Trees as trees;
 
 use migrate_seq::MigStep;
@@ -18,15 +18,15 @@ pub(crate) fn texts(alloc: Global, all: &[&str]) -> Mem<Vec<Text>>
     Ok(copies)
 }
 
-/// The step that adds a text.
-pub(crate) fn add(alloc: Global, path: &[&str], key: &str, text: &str) -> Mem<MigStep>
+/// The step that adds a value where its key is missing.
+pub(crate) fn add(alloc: Global, path: &[&str], key: &str, val: Val) -> Mem<MigStep>
     ensures { IfOk result (λ s. trees.step_tree s
-        ≡ trees.add (map (λ t. t.now) path.now) key.now (val.text text.now)) }
+        ≡ trees.add (map (λ t. t.now) path.now) key.now (data_of val)) }
 {
     Ok(MigStep::Add {
         path: texts(alloc, path)?,
         key: Text::of(alloc, key)?,
-        val: Val::Text(Text::of(alloc, text)?),
+        val,
     })
 }
 

@@ -1,16 +1,16 @@
 //! The migrations, in sequences.
-ghost use Rattle.std.specs.Prelude.{◌≡◌, ◌↔◌, IsTrue, IfOk, map, filter, true, [], ◌∷◌, codes};
+ghost use Rattle.std.specs.Prelude.{◌≡◌, ◌↔◌, IsTrue, IfOk, map, filter, false, true, [], ◌∷◌, codes};
 ghost use Rattle.migrate_seq.specs.SequencesOf.{sequences_of};
 ghost use Rattle.migrate_seq.specs.declared.fault.SeqFault.TheVariants as seq_fault;
 ghost use Rattle.migrate_seq.specs.declared.migration.MigScope.TheVariants as mig_scope;
-ghost use Rattle.rooms_val.specs.Data.{text};
+ghost use Rattle.rooms_val.specs.Data.{boolean, text};
 ghost use Rattle.tl_tables.specs.Trees as trees;
 ghost use Rattle.tl_tables.specs.Trees.{step_tree, migration_tree, sequence_tree};
 ghost use Rattle.tl_tables.specs.Migrations as rows;
 
 use crate::listed::{add, map_enum, nest, rename, scale, texts};
 use migrate_seq::{Filter, MigScope, MigStep, Migration, SeqFault, Sequence, Sequences};
-use rooms_val::{Mem, OutOfMemory, Text};
+use rooms_val::{Mem, OutOfMemory, Text, Val};
 use std::alloc::Global;
 
 /// The sequences of which a migration is there at a version.
@@ -19,8 +19,10 @@ pub(crate) fn sequences(alloc: Global, version: u32) -> Mem<Sequences>
     ensures { IfOk result (λ s. map sequence_tree (sequences_of s) ≡ rows.sequences version) }
 {
     let mut list = vec![in alloc;
+        asset(alloc, version)?,
         base(alloc, version)?,
         binding(alloc, version)?,
+        page(alloc, version)?,
         shape(alloc, version)?,
     ]?;
     drop_empty(&mut list);
@@ -74,6 +76,18 @@ fn sequence_at(
     })
 }
 
+#[tactic(auto, unfolding(crate::specs::Migrations::asset))]
+fn asset(alloc: Global, version: u32) -> Mem<Sequence>
+    ensures { IfOk result (λ s. sequence_tree s ≡ rows.asset version) }
+{
+    sequence_at(
+        alloc,
+        version,
+        "rooms.asset",
+        vec![in alloc; (4, asset_1(alloc)?)]?,
+    )
+}
+
 #[tactic(auto, unfolding(crate::specs::Migrations::base))]
 fn base(alloc: Global, version: u32) -> Mem<Sequence>
     ensures { IfOk result (λ s. sequence_tree s ≡ rows.base version) }
@@ -98,6 +112,18 @@ fn binding(alloc: Global, version: u32) -> Mem<Sequence>
     )
 }
 
+#[tactic(auto, unfolding(crate::specs::Migrations::page))]
+fn page(alloc: Global, version: u32) -> Mem<Sequence>
+    ensures { IfOk result (λ s. sequence_tree s ≡ rows.page version) }
+{
+    sequence_at(
+        alloc,
+        version,
+        "rooms.page",
+        vec![in alloc; (5, page_1(alloc)?)]?,
+    )
+}
+
 #[tactic(auto, unfolding(crate::specs::Migrations::shape))]
 fn shape(alloc: Global, version: u32) -> Mem<Sequence>
     ensures { IfOk result (λ s. sequence_tree s ≡ rows.shape version) }
@@ -110,18 +136,45 @@ fn shape(alloc: Global, version: u32) -> Mem<Sequence>
     )
 }
 
+/// The sides of an asset stood beside the other properties.
+#[tactic(auto, unfolding(crate::specs::Migrations::asset_1))]
+fn asset_1(alloc: Global) -> Mem<Migration>
+    ensures { IfOk result (λ m. migration_tree m ≡ rows.asset_1) }
+{
+    let filter = Filter::Type_(Text::of(alloc, "asset")?);
+    let steps = vec![in alloc; dims_nested(alloc)?]?;
+    both_ways(alloc, "rooms.asset/1", filter, steps, Vec::new(alloc))
+}
+
+fn dims_nested(alloc: Global) -> Mem<MigStep>
+    ensures { IfOk result (λ s. step_tree s
+        ≡ trees.nest (codes "props" ∷ []) (codes "h" ∷ codes "w" ∷ []) (codes "dims")) }
+{
+    nest(alloc, &["props"], &["h", "w"], "dims")
+}
+
 #[tactic(auto, unfolding(crate::specs::Migrations::base_1))]
 fn base_1(alloc: Global) -> Mem<Migration>
     ensures { IfOk result (λ m. migration_tree m ≡ rows.base_1) }
 {
-    Ok(Migration {
-        id: Text::of(alloc, "rooms.base/1")?,
-        scope: MigScope::Record,
-        filter: Filter::All,
-        steps: Vec::new(alloc),
-        has_down: false,
-        depends: Vec::new(alloc),
-    })
+    let steps = Vec::new(alloc);
+    up_alone(alloc, "rooms.base/1", MigScope::Record, Filter::All, steps)
+}
+
+/// No page was hidden.
+#[tactic(auto, unfolding(crate::specs::Migrations::page_1))]
+fn page_1(alloc: Global) -> Mem<Migration>
+    ensures { IfOk result (λ m. migration_tree m ≡ rows.page_1) }
+{
+    let filter = Filter::Type_(Text::of(alloc, "page")?);
+    let steps = vec![in alloc; hidden_added(alloc)?]?;
+    up_alone(alloc, "rooms.page/1", MigScope::Store, filter, steps)
+}
+
+fn hidden_added(alloc: Global) -> Mem<MigStep>
+    ensures { IfOk result (λ s. step_tree s ≡ trees.add [] (codes "hidden") (boolean false)) }
+{
+    add(alloc, &[], "hidden", Val::Bool(false))
 }
 
 /// Opacity was in tenths.
@@ -174,7 +227,8 @@ fn dash_added(alloc: Global) -> Mem<MigStep>
     ensures { IfOk result (λ s. step_tree s
         ≡ trees.add (codes "props" ∷ []) (codes "dash") (text (codes "draw"))) }
 {
-    add(alloc, &["props"], "dash", "draw")
+    let draw = Val::Text(Text::of(alloc, "draw")?);
+    add(alloc, &["props"], "dash", draw)
 }
 
 fn oval_renamed(alloc: Global) -> Mem<MigStep>
@@ -247,5 +301,33 @@ fn both_ways(
         steps,
         has_down: true,
         depends,
+    })
+}
+
+// A migration that can't be run down, and depends on no other.
+fn up_alone(
+    alloc: Global,
+    id: &str,
+    scope: MigScope,
+    filter: Filter,
+    steps: Vec<MigStep>,
+) -> Mem<Migration>
+    ensures { IfOk result (λ m. migration_tree m
+        ≡ record {
+          id = id.now;
+          scope = scope;
+          filter = filter;
+          steps = map step_tree steps.items;
+          has_down = false;
+          depends = [];
+        }) }
+{
+    Ok(Migration {
+        id: Text::of(alloc, id)?,
+        scope,
+        filter,
+        steps,
+        has_down: false,
+        depends: Vec::new(alloc),
     })
 }

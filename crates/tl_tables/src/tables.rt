@@ -12,7 +12,7 @@ use std::alloc::Global;
 use thiserror::Error;
 
 /// The newest version of the tables, which have each from 1 on.
-pub const NEWEST_VERSION: u32 = 3;
+pub const NEWEST_VERSION: u32 = 5;
 
 /// Why there is no schema.
 #[derive(Clone, Copy, Debug, PartialEq, Eq, Error)]

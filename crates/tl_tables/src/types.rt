@@ -93,9 +93,11 @@ fn document(alloc: Global, version: u32) -> Mem<TypeRow>
 fn page(alloc: Global, version: u32) -> Mem<TypeRow>
     ensures { IfOk result (λ r. row_tree r ≡ types.page version) }
 {
-    let fields = Fields::of_record(alloc, version, "page")?
-        .always("name", short_text())?
-        .always("index", Check::Key)?;
+    let fields = Fields::of_record(alloc, version, "page")?.with_each(&[
+        Field::Always("name", Rule::ShortText),
+        Field::Always("index", Rule::Key),
+        Field::Since(5, "hidden", Rule::Bool),
+    ])?;
     type_row(alloc, "page", Scope::Document, fields)
 }
 
@@ -137,12 +139,24 @@ fn asset_props(alloc: Global, version: u32) -> Mem<Check>
 {
     let fields = Fields::none(alloc, version)
         .with_each(&[
-            Field::Always("w", Rule::Extent),
-            Field::Always("h", Rule::Extent),
-            Field::Always("name", Rule::ShortText),
+            Field::Until(3, "w", Rule::Extent),
+            Field::Until(3, "h", Rule::Extent),
         ])?
+        .since(4, "dims", dims(alloc, version)?)?
+        .always("name", short_text())?
         .always("src", Check::nullable(alloc, long_text())?)?
         .always("mimeType", Check::nullable(alloc, short_text())?)?;
+    Ok(fields.object())
+}
+
+#[tactic(auto, unfolding(crate::specs::Types::dims))]
+fn dims(alloc: Global, version: u32) -> Mem<Check>
+    ensures { IfOk result (λ c. tree_of c ≡ types.dims version) }
+{
+    let fields = Fields::none(alloc, version).with_each(&[
+        Field::Always("w", Rule::Extent),
+        Field::Always("h", Rule::Extent),
+    ])?;
     Ok(fields.object())
 }
 
