@@ -1,2 +1,3 @@
 pub mod InsertionLemmas
 pub mod ListingLemmas
+pub mod PartsLemmas

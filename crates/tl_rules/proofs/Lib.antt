@@ -1,5 +1,6 @@
 pub mod PlanLemmas
 pub mod MergeLemmas
 pub mod QueryLemmas
+pub mod PartLemmas
 pub mod WalkLemmas
 pub mod BoxLemmas

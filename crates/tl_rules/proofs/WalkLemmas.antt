@@ -2,7 +2,7 @@
 use denote.Ref.{Bor}
 use Rattle.std.proofs.Common.{◌≡◌, ℕ, zero, suc, ◌+◌, ◌-◌, ◌<◌, ◌≤◌, List, [], ◌∷◌, ◌++◌, length, take, drop, get_or, Bool, true, false, Option, None, Some, refl, sym, ◌∙◌, ap, subst, arith, append_assoc, length-append, add-one}
 use Rattle.std.specs.Prelude.{nat_le, if◌then◌else◌}
-use Rattle.std.specs.List.{zip}
+use Rattle.std.specs.List.{zip, slice_get}
 use Rattle.std.proofs.lemmas.Bool.{leb-true, le-leb}
 use Rattle.std.proofs.lemmas.List.{append-nil, drop_all, length-map, map-append}
 use Rattle.signal_rules.specs.declared.rules.Ask.TheVariants.{Need, Done}
@@ -15,6 +15,7 @@ use Rattle.tl_rules.specs.Plans.{Plan, ends, Place, needs, ended, place_after, a
 use Rattle.tl_rules.specs.Answers.{ids_in}
 use Rattle.tl_rules.specs.Trees.{Listing, each, below, most_at_once, below_known, row_plan, page_plan, tree_plan}
 use Rattle.tl_rules.specs.Walks.{ids_view, room, HasWalked}
+use Rattle.tl_rules.proofs.PartLemmas.{no_gap, got_here}
 use Rattle.tl_rules.proofs.PlanLemmas.{go_on, place-chain, values_needed, values_ended}
 
 abbrev Spot : Type 0
@@ -197,6 +198,11 @@ zip_all (id ∷ ids) [] i all = drop_all i [] (omega arith)
 zip_all (id ∷ ids) (v ∷ known) zero all = absurd (omega arith)
 zip_all (id ∷ ids) (v ∷ known) (suc i) all = zip_all ids known i (omega arith)
 
+-- a child and its answer, and those after them
+pub known_off : (front others after : List (List ℕ)) (child : List ℕ) (known later : List TlValue) (row : TlValue) → front ≡ child ∷ others → known ≡ row ∷ later
+    → zip (front ++ after) known ≡ (child, row) ∷ zip (others ++ after) later
+known_off front others after child known later row is split = λ i. zip (is i ++ after) (split i)
+
 module _ (levels left : ℕ) (ids : List (List ℕ)) (rest : List TlValue) (before after : List (List ℕ)) (left_over : List TlValue) where
   -- the children of one of the row are needed
   pub row_needed : (id : List ℕ) → length ids ≤ most_at_once → length rest < length ids → id ≡ get_or ids (length rest) id → HasWalked (place_after (row_plan levels left ids) rest) before after left_over (Some id)
@@ -206,6 +212,11 @@ module _ (levels left : ℕ) (ids : List (List ℕ)) (rest : List TlValue) (befo
       (subst (λ (p : Spot). HasWalked p before after left_over (Some id))
       (sym (place-chain (values_of key.ByParent ids) (below_known levels left ids) rest ∙ ap (λ p. go_on p (below_known levels left ids)) (values_needed key.ByParent ids rest id some)))
       (ap (λ i. Some (key.ByParent i)) here))
+
+  -- the same by the child that is there
+  pub row_needed_there : (need : Option (List ℕ)) → length ids ≤ most_at_once → length rest < length ids → need ≡ slice_get ids (length rest) → HasWalked (place_after (row_plan levels left ids) rest) before after left_over need
+  row_needed_there None few some there = absurd (no_gap ids (length rest) there some)
+  row_needed_there (Some id) few some there = row_needed id few some (got_here ids (length rest) id there)
 
   module _ (need : Option (List ℕ)) where
     -- the children of all of the row are known

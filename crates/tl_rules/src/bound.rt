@@ -2,8 +2,9 @@
 ghost use Rattle.std.specs.Prelude.{◌≡◌, ◌++◌, IfOk, OnOk};
 ghost use Rattle.tl_rules.specs.Plans.{asked};
 ghost use Rattle.tl_rules.specs.Asking.{merged, bound_plan, count_plan};
+ghost use Rattle.tl_rules.specs.Ids.{flat};
 
-use crate::ids::Ids;
+use crate::ids::{Ids, Part};
 use crate::key::TlKey;
 use crate::value::TlValue;
 use rooms_val::{Mem, Text};
@@ -21,7 +22,9 @@ pub(crate) fn ask_bound(alloc: Global, id: &Text, got: &[TlValue]) -> Mem<Ask<Tl
     let Some((to, _)) = rest.split_first() else {
         return Ok(Ask::Need(TlKey::BoundTo(id.copy(alloc)?)));
     };
-    Ok(Ask::Done(TlValue::Ids(merge(alloc, from.ids(), to.ids())?)))
+    let from = copied(alloc, from.parts())?;
+    let to = copied(alloc, to.parts())?;
+    Ok(Ask::Done(TlValue::Ids(merge(alloc, &from, &to)?)))
 }
 
 // What the count of a page asks for: its tree.
@@ -29,7 +32,7 @@ pub(crate) fn ask_count(alloc: Global, page: &Text, got: &[TlValue]) -> Mem<Ask<
     ensures { IfOk result (λ a. a ≡ asked (count_plan page.now) got.now) }
 {
     match got.split_first() {
-        Some((tree, _)) => Ok(Ask::Done(TlValue::Number(tree.ids().len() as u64))),
+        Some((tree, _)) => Ok(Ask::Done(TlValue::Number(tree.count() as u64))),
         None => Ok(Ask::Need(TlKey::Tree(page.copy(alloc)?))),
     }
 }
@@ -62,6 +65,17 @@ fn merge(alloc: Global, left: &[Text], right: &[Text]) -> Mem<Ids>
     add_all(alloc, &mut ids, &right[j..])?;
     let merged = Ids::of(alloc, ids)?;
     Ok(merged)
+}
+
+// Copies of the ids of some parts.
+fn copied(alloc: Global, parts: &[Part]) -> Mem<Vec<Text>>
+    ensures { IfOk result (λ ids. ids.items ≡ flat parts.now) }
+{
+    let mut ids = Vec::new(alloc);
+    'parts: for part in parts {
+        add_all(alloc, &mut ids, part.as_slice())?;
+    }
+    Ok(ids)
 }
 
 // Adds copies of some ids.

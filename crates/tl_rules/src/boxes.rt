@@ -9,6 +9,7 @@ ghost use Rattle.tl_rules.specs.Plans.{asked};
 ghost use Rattle.tl_rules.specs.Answers.{box_in};
 ghost use Rattle.tl_rules.specs.Boxes.{shape_in, box_plan, joined_boxes};
 
+use crate::ids::id_at;
 use crate::key::TlKey;
 use crate::level::Level;
 use crate::value::TlValue;
@@ -41,12 +42,15 @@ pub(crate) fn ask_box(
     let Some((below, boxes)) = rest.split_first() else {
         return Ok(Ask::Need(TlKey::ByParent(id.copy(alloc)?)));
     };
-    let children = first_children(below.ids());
-    if boxes.len() < children.len() {
-        let child = children[boxes.len()].copy(alloc)?;
+    let children = below.count().min(MOST_SHAPES);
+    if boxes.len() < children {
+        let Some(child) = id_at(below.parts(), boxes.len()) else {
+            unreachable!();
+        };
+        let child = child.copy(alloc)?;
         return Ok(Ask::Need(TlKey::Box(child, Level::of(level.number() - 1))));
     }
-    Ok(Ask::Done(boxes_joined(shape, &boxes[..children.len()])))
+    Ok(Ask::Done(boxes_joined(shape, &boxes[..children])))
 }
 
 // The shape that the answer is, under the id.
@@ -67,16 +71,6 @@ fn is_shape(id: &str) -> bool
     match id_type(id) {
         Some(name) => name == "shape",
         None => false,
-    }
-}
-
-// The children that a box looks at.
-fn first_children(children: &[Text]) -> &[Text]
-    ensures { result.now ≡ take most_shapes children.now }
-{
-    match children.split_at_checked(MOST_SHAPES) {
-        Some((first, _)) => first,
-        None => children,
     }
 }
 

@@ -1,26 +1,83 @@
-//! A list of ids, which its copies share.
-ghost use Rattle.std.specs.Prelude.{◌≡◌, ◌↔◌, [], length, IsTrue, IfOk};
-ghost use Rattle.tl_rules.specs.Ids.{ids_eq, ids_equiv, ids_per};
+//! A list of ids in parts, which its copies share.
+ghost use Rattle.std.specs.Prelude.{◌≡◌, ◌↔◌, [], length, IsTrue, IfOk, option_map, slice_get};
+ghost use Rattle.std.specs.Bool.{Decides};
+ghost use Rattle.tl_rules.specs.Ids.{flat, ids_eq, ids_equiv, ids_per};
 
-use rooms_val::{Mem, Text};
+use rooms_val::{Mem, OutOfMemory, Text};
 use std::alloc::Global;
 use std::marker::Model;
 use std::sync::Arc;
 
-/// A list of ids, which its copies share. Contracts see the list.
+/// Ids that stand together in a list. Copies share them. Contracts see the ids.
 #[derive(Drop)]
-pub struct Ids {
-    // Nothing where there are no ids.
-    items: Option<Arc<Vec<Text>>>,
+pub struct Part {
+    items: Arc<Vec<Text>>,
 }
 
-impl Model for Ids {
+impl Model for Part {
     ghost use Rattle.std.specs.Prelude.{List, ℕ};
-    ghost use Rattle.rooms_val.specs.Shared.{held};
 
     ghost Value = { List (List ℕ) };
 
-    ghost view = { λ ids. held ids.items };
+    ghost view = { λ part. part.items.value.items };
+}
+
+impl Part {
+    /// These ids, which copies will share.
+    ///
+    /// # Errors
+    ///
+    /// Memory was refused.
+    pub fn of(alloc: Global, items: Vec<Text>) -> Mem<Part>
+        ensures { IfOk result (λ part. part ≡ items.items) }
+    {
+        Ok(Part {
+            items: Arc::new(alloc, items)?,
+        })
+    }
+
+    /// The ids in order.
+    pub fn as_slice(&self) -> &[Text]
+        ensures { result.now ≡ self.now }
+    {
+        &self.items
+    }
+
+    /// An equal part, at the cost of counting one more owner. It takes no memory.
+    ///
+    /// # Errors
+    ///
+    /// There are 2^63 owners.
+    pub fn copy(&self) -> Mem<Part>
+        ensures { IfOk result (λ part. part ≡ self.now) }
+    {
+        Ok(Part {
+            items: Arc::try_clone(&self.items)?,
+        })
+    }
+}
+
+/// A list of ids, which its copies share. Contracts see the list.
+///
+/// The ids stand in parts, so that a list which differs in one of them shares the others.
+#[derive(Drop)]
+pub struct Ids {
+    // How many ids there are.
+    len: usize,
+    // Nothing where there are no ids.
+    parts: Option<Arc<Vec<Part>>>,
+}
+
+impl Model for Ids {
+    ghost use Rattle.std.specs.Prelude.{◌≡◌, List, ℕ, length};
+    ghost use Rattle.rooms_val.specs.Shared.{held};
+    ghost use Rattle.tl_rules.specs.Ids.{flat};
+
+    ghost Value = { List (List ℕ) };
+
+    ghost view = { λ ids. flat (held ids.parts) };
+
+    ghost invariant = { λ ids. ids.len ≡ length (flat (held ids.parts)) };
 }
 
 impl PartialEq for Ids {
@@ -29,7 +86,7 @@ impl PartialEq for Ids {
     ghost laws = { ids_per };
 
     fn eq(&self, other: &Ids) -> bool {
-        self.as_slice() == other.as_slice()
+        self.len == other.len && are_alike(self.parts(), other.parts(), self.len)
     }
 }
 
@@ -42,10 +99,13 @@ impl Ids {
     pub fn new() -> Ids
         ensures { result ≡ [] }
     {
-        Ids { items: None }
+        Ids {
+            len: 0,
+            parts: None,
+        }
     }
 
-    /// These ids, which copies will share.
+    /// These ids in one part, which copies will share.
     ///
     /// # Errors
     ///
@@ -53,8 +113,22 @@ impl Ids {
     pub fn of(alloc: Global, items: Vec<Text>) -> Mem<Ids>
         ensures { IfOk result (λ ids. ids ≡ items.items) }
     {
+        let mut parts = Vec::with_capacity(alloc, 1)?;
+        parts.push(Part::of(alloc, items)?)?;
+        Ids::of_parts(alloc, parts)
+    }
+
+    /// The ids of these parts, which copies will share. It costs a look at each part.
+    ///
+    /// # Errors
+    ///
+    /// Memory was refused.
+    pub fn of_parts(alloc: Global, parts: Vec<Part>) -> Mem<Ids>
+        ensures { IfOk result (λ ids. ids ≡ flat parts.items) }
+    {
         Ok(Ids {
-            items: Some(Arc::new(alloc, items)?),
+            len: count(&parts)?,
+            parts: Some(Arc::new(alloc, parts)?),
         })
     }
 
@@ -62,24 +136,31 @@ impl Ids {
     pub fn len(&self) -> usize
         ensures { result ≡ length self.now }
     {
-        self.as_slice().len()
+        self.len
     }
 
     /// Whether there are none.
     pub fn is_empty(&self) -> bool
         ensures { IsTrue result ↔ (self.now ≡ []) }
     {
-        self.as_slice().is_empty()
+        self.len == 0
     }
 
-    /// The ids in order.
-    pub fn as_slice(&self) -> &[Text]
-        ensures { result.now ≡ self.now }
+    /// The parts, whose ids in order are those of the list.
+    pub fn parts(&self) -> &[Part]
+        ensures { flat result.now ≡ self.now }
     {
-        match &self.items {
-            Some(items) => items,
+        match &self.parts {
+            Some(parts) => parts,
             None => &[],
         }
+    }
+
+    /// The id at a place, if there is one. It costs a look at each part before.
+    pub fn get(&self, place: usize) -> Option<&Text>
+        ensures { option_map (λ id. id.now) result ≡ slice_get self.now place }
+    {
+        id_at(self.parts(), place)
     }
 
     /// An equal list, at the cost of counting one more owner. It takes no memory.
@@ -90,11 +171,69 @@ impl Ids {
     pub fn copy(&self) -> Mem<Ids>
         ensures { IfOk result (λ ids. ids ≡ self.now) }
     {
-        match &self.items {
-            None => Ok(Ids { items: None }),
-            Some(items) => Ok(Ids {
-                items: Some(Arc::try_clone(items)?),
+        match &self.parts {
+            None => Ok(Ids::new()),
+            Some(parts) => Ok(Ids {
+                len: self.len,
+                parts: Some(Arc::try_clone(parts)?),
             }),
         }
+    }
+}
+
+// How many ids some parts have. Memory counts as refused where there are 2^64.
+fn count(parts: &[Part]) -> Mem<usize>
+    ensures { IfOk result (λ n. n ≡ length (flat parts.now)) }
+{
+    let mut found = 0_usize;
+    'parts: for part in parts {
+        let Some(more) = found.checked_add(part.as_slice().len()) else {
+            return Err(OutOfMemory);
+        };
+        found = more;
+    }
+    Ok(found)
+}
+
+// The id at a place among those of some parts, if there is one.
+pub(crate) fn id_at(parts: &[Part], place: usize) -> Option<&Text>
+    ensures { option_map (λ id. id.now) result ≡ slice_get (flat parts.now) place }
+{
+    let mut left = place;
+    'parts: for part in parts {
+        let ids = part.as_slice();
+        if left < ids.len() {
+            return Some(&ids[left]);
+        }
+        left -= ids.len();
+    }
+    None
+}
+
+// Whether the ids of some parts are those of others, where each have so many.
+fn are_alike(left: &[Part], right: &[Part], len: usize) -> bool
+    requires left { len ≡ length (flat left.now) }
+    requires right { len ≡ length (flat right.now) }
+    ensures { Decides result (flat left.now ≡ flat right.now) }
+{
+    'places: for place in 0..len {
+        if !are_same(id_at(left, place), id_at(right, place)) {
+            return false;
+        }
+    }
+    true
+}
+
+// Whether both are the same id, or there is none.
+fn are_same(one: Option<&Text>, other: Option<&Text>) -> bool
+    ensures { Decides result
+        (option_map (λ id. id.now) one.entry ≡ option_map (λ id. id.now) other.entry) }
+{
+    match one {
+        Some(id) => match other {
+            Some(same) => id == same,
+            None => false,
+        },
+        None => other.is_none(),
     }
 }

@@ -15,7 +15,7 @@ mod rules;
 mod tree;
 mod value;
 
-pub use ids::Ids;
+pub use ids::{Ids, Part};
 pub use key::TlKey;
 pub use laws::values_are_plain_queries;
 pub use level::Level;

@@ -5,11 +5,13 @@
 //! the page; and in the row the next need is found at once. Where the row would be long it is left out.
 ghost use Rattle.std.specs.Prelude.{◌≡◌, ◌-◌, IfOk, length};
 ghost use Rattle.shape_tree.specs.Trees.{most_levels};
+ghost use Rattle.tl_rules.specs.Answers.{ids_in};
+ghost use Rattle.tl_rules.specs.Ids.{flat};
 ghost use Rattle.tl_rules.specs.Plans.{asked, place_after};
 ghost use Rattle.tl_rules.specs.Trees.{each, below, below_known, row_plan, page_plan, tree_plan};
 ghost use Rattle.tl_rules.specs.Walks.{ids_view, id_view, room, HasWalked};
 
-use crate::ids::Ids;
+use crate::ids::{Ids, Part, id_at};
 use crate::key::TlKey;
 use crate::value::TlValue;
 use rooms_val::{Mem, Text};
@@ -53,23 +55,24 @@ fn list_page<'a>(walk: &mut Walk<'a>, page: &'a Text) -> Mem<Option<&'a Text>>
         return Ok(Some(page));
     };
     walk.rest = rest;
-    list_row(walk, first.ids())
+    list_row(walk, first)
 }
 
 // Lists the children of a page and the shapes below them, or finds the one whose children are needed for that.
-fn list_row<'a>(walk: &mut Walk<'a>, children: &'a [Text]) -> Mem<Option<&'a Text>>
+fn list_row<'a>(walk: &mut Walk<'a>, row: &'a TlValue) -> Mem<Option<&'a Text>>
     ensures { IfOk result (λ need. HasWalked (place_after
-        (row_plan (most_levels - 2) (room (ids_view walk.old.ids.items)) children.now) walk.old.rest.now)
+        (row_plan (most_levels - 2) (room (ids_view walk.old.ids.items)) (ids_in row.now)) walk.old.rest.now)
         (ids_view walk.old.ids.items) (ids_view walk.new.ids.items) walk.new.rest.now (id_view need)) }
 {
-    if children.len() > MOST_AT_ONCE {
+    let children = row.parts();
+    if row.count() > MOST_AT_ONCE {
         let need = list_each(walk, children, MOST_LEVELS - 1)?;
         return Ok(need);
     }
-    if walk.rest.len() < children.len() {
-        return Ok(Some(&children[walk.rest.len()]));
+    if walk.rest.len() < row.count() {
+        return Ok(id_at(children, walk.rest.len()));
     }
-    let (known, rest) = walk.rest.split_at(children.len());
+    let (known, rest) = walk.rest.split_at(row.count());
     walk.rest = rest;
     let need = list_known(walk, children, known, MOST_LEVELS - 2)?;
     Ok(need)
@@ -78,22 +81,29 @@ fn list_row<'a>(walk: &mut Walk<'a>, children: &'a [Text]) -> Mem<Option<&'a Tex
 // Lists each child and the shapes so many levels below its children, which are known.
 fn list_known<'a>(
     walk: &mut Walk<'a>,
-    children: &'a [Text],
+    parts: &'a [Part],
     known: &'a [TlValue],
     levels: u8,
 ) -> Mem<Option<&'a Text>>
-    requires { length known.now ≡ length children.now }
+    requires { length known.now ≡ length (flat parts.now) }
     ensures { IfOk result (λ need. HasWalked (place_after
-        (below_known levels (room (ids_view walk.old.ids.items)) children.now known.now) walk.old.rest.now)
+        (below_known levels (room (ids_view walk.old.ids.items)) (flat parts.now) known.now) walk.old.rest.now)
         (ids_view walk.old.ids.items) (ids_view walk.new.ids.items) walk.new.rest.now (id_view need)) }
 {
-    'children: for (i, child) in children.iter().enumerate() {
-        if walk.ids.len() >= MOST_SHAPES {
-            return Ok(None);
-        }
-        walk.ids.push(child)?;
-        if let Some(need) = list_each(walk, known[i].ids(), levels)? {
-            return Ok(Some(need));
+    let mut left = known;
+    'parts: for part in parts {
+        'children: for child in part.as_slice() {
+            let Some((row, others)) = left.split_first() else {
+                unreachable!();
+            };
+            left = others;
+            if walk.ids.len() >= MOST_SHAPES {
+                return Ok(None);
+            }
+            walk.ids.push(child)?;
+            if let Some(need) = list_each(walk, row.parts(), levels)? {
+                return Ok(Some(need));
+            }
         }
     }
     Ok(None)
@@ -113,24 +123,26 @@ fn list_below<'a>(walk: &mut Walk<'a>, parent: &'a Text, levels: u8) -> Mem<Opti
         return Ok(Some(parent));
     };
     walk.rest = rest;
-    let need = list_each(walk, first.ids(), levels - 1)?;
+    let need = list_each(walk, first.parts(), levels - 1)?;
     Ok(need)
 }
 
 // Lists each child and the shapes so many levels below it, or finds the one whose children are needed for that.
 #[cycle(walk)]
-fn list_each<'a>(walk: &mut Walk<'a>, children: &'a [Text], levels: u8) -> Mem<Option<&'a Text>>
+fn list_each<'a>(walk: &mut Walk<'a>, parts: &'a [Part], levels: u8) -> Mem<Option<&'a Text>>
     ensures { IfOk result (λ need. HasWalked (place_after
-        (each (λ id. id) (below levels) (room (ids_view walk.old.ids.items)) children.now) walk.old.rest.now)
+        (each (λ id. id) (below levels) (room (ids_view walk.old.ids.items)) (flat parts.now)) walk.old.rest.now)
         (ids_view walk.old.ids.items) (ids_view walk.new.ids.items) walk.new.rest.now (id_view need)) }
 {
-    'children: for child in children {
-        if walk.ids.len() >= MOST_SHAPES {
-            return Ok(None);
-        }
-        walk.ids.push(child)?;
-        if let Some(need) = list_below(walk, child, levels)? {
-            return Ok(Some(need));
+    'parts: for part in parts {
+        'children: for child in part.as_slice() {
+            if walk.ids.len() >= MOST_SHAPES {
+                return Ok(None);
+            }
+            walk.ids.push(child)?;
+            if let Some(need) = list_below(walk, child, levels)? {
+                return Ok(Some(need));
+            }
         }
     }
     Ok(None)

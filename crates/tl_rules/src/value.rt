@@ -1,11 +1,12 @@
 //! What a key comes to, and what an answer is of the kind that was asked for.
-ghost use Rattle.std.specs.Prelude.{◌≡◌, ◌^◌, IfSome, IfOk};
+ghost use Rattle.std.specs.Prelude.{◌≡◌, ◌^◌, length, IfSome, IfOk};
 ghost use Rattle.shape_tree.specs.Boxes.{HasSidesWithin};
 ghost use Rattle.shape_tree.specs.View.{maybe_data};
 ghost use Rattle.tl_rules.specs.Answers.{is_near, are_near, is_small};
+ghost use Rattle.tl_rules.specs.Ids.{flat};
 
-use crate::ids::Ids;
-use rooms_val::{Mem, Text, Val};
+use crate::ids::{Ids, Part};
+use rooms_val::{Mem, Val};
 use shape_tree::Rect;
 use std::alloc::Global;
 
@@ -38,13 +39,37 @@ impl TlValue {
         }
     }
 
-    /// The ids; none if it is something else.
-    pub fn ids(&self) -> &[Text]
-        ensures { result.now ≡ ids_in self.now }
+    /// The ids, which are shared; none if it is something else.
+    ///
+    /// # Errors
+    ///
+    /// Memory was refused.
+    pub fn ids(&self) -> Mem<Ids>
+        ensures { IfOk result (λ ids. ids ≡ ids_in self.now) }
     {
         match self {
-            TlValue::Ids(ids) => ids.as_slice(),
+            TlValue::Ids(ids) => ids.copy(),
+            _ => Ok(Ids::new()),
+        }
+    }
+
+    /// The parts of the ids in order; none if it is something else.
+    pub fn parts(&self) -> &[Part]
+        ensures { flat result.now ≡ ids_in self.now }
+    {
+        match self {
+            TlValue::Ids(ids) => ids.parts(),
             _ => &[],
+        }
+    }
+
+    /// How many ids there are; none if it is something else.
+    pub fn count(&self) -> usize
+        ensures { result ≡ length (ids_in self.now) }
+    {
+        match self {
+            TlValue::Ids(ids) => ids.len(),
+            _ => 0,
         }
     }
 
