@@ -2,13 +2,14 @@
 ghost use Rattle.std.specs.Prelude.{◌≡◌, ◌++◌, IfOk, OnOk, map};
 ghost use Rattle.rooms_val.specs.View.{data_of};
 ghost use Rattle.shape_tree.specs.Views.{box_data, ids_data};
+ghost use Rattle.tl_rules.specs.Ids.{flat};
 ghost use Rattle.live_views.specs.Telling.{told_of};
 
 use rooms_val::{Fields, Mem, Text, Val, Vals};
 use shape_tree::Rect;
 use shape_tree::limits::MOST_SHAPES;
 use std::alloc::Global;
-use tl_rules::TlValue;
+use tl_rules::{Part, TlValue};
 
 // The value by which an answer is told.
 pub(crate) fn told_value(alloc: Global, value: &TlValue) -> Mem<Val>
@@ -16,7 +17,7 @@ pub(crate) fn told_value(alloc: Global, value: &TlValue) -> Mem<Val>
 {
     match value {
         TlValue::Rec(_) => Ok(Val::Null),
-        TlValue::Ids(ids) => told_ids(alloc, ids.as_slice()),
+        TlValue::Ids(ids) => told_ids(alloc, ids.parts()),
         TlValue::Number(number) => Ok(Val::Int((*number).min(MOST_SHAPES as u64) as i64)),
         TlValue::Rect(None) => Ok(Val::Null),
         TlValue::Rect(Some(rect)) => told_box(alloc, *rect),
@@ -35,13 +36,15 @@ fn told_box(alloc: Global, rect: Rect) -> Mem<Val>
     Ok(Val::Map(fields))
 }
 
-// The ids as a list of texts.
-fn told_ids(alloc: Global, ids: &[Text]) -> Mem<Val>
-    ensures { IfOk result (λ val. data_of val ≡ ids_data ids.now) }
+// The ids of some parts as a list of texts.
+fn told_ids(alloc: Global, parts: &[Part]) -> Mem<Val>
+    ensures { IfOk result (λ val. data_of val ≡ ids_data (flat parts.now)) }
 {
     let mut list = Vals::new(alloc);
-    'ids: for id in ids {
-        list.push(Val::Text(id.copy(alloc)?))?;
+    'parts: for part in parts {
+        'ids: for id in part.as_slice() {
+            list.push(Val::Text(id.copy(alloc)?))?;
+        }
     }
     Ok(Val::List(list))
 }

@@ -2,6 +2,7 @@ pub mod RecordLemmas
 pub mod FrameLemmas
 pub mod LeadLemmas
 pub mod NewestLemmas
+pub mod PlaceLemmas
 pub mod ListLemmas
 pub mod CallLemmas
 pub mod TreeLemmas

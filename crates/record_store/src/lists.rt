@@ -22,7 +22,7 @@ use board_lists::{Listing, with_id, without_id};
 use rooms_val::{Mem, Text, Val};
 use signal_txn::Txn;
 use std::alloc::Global;
-use tl_rules::{TlKey, TlRules, TlValue};
+use tl_rules::{Ids, TlKey, TlRules, TlValue};
 
 // The record that an atom has, if there is one.
 pub(crate) fn record_of<'a>(graph: &'a Txn<TlRules>, key: &TlKey) -> Option<&'a Val>
@@ -41,13 +41,13 @@ pub(crate) fn record_at<'a>(graph: &'a Txn<TlRules>, keys: &Keys, id: &str) -> O
 }
 
 // The ids that an atom lists.
-fn ids_at<'a>(graph: &'a Txn<TlRules>, key: &TlKey) -> &'a [Text]
+fn ids_at(graph: &Txn<TlRules>, key: &TlKey) -> Mem<Ids>
     requires { rank_of key.now ≡ 0 }
-    ensures { result.now ≡ ids_in (atoms_of graph.now key.now) }
+    ensures { IfOk result (λ ids. ids ≡ ids_in (atoms_of graph.now key.now)) }
 {
     match graph.atom(key) {
         Some(value) => value.ids(),
-        None => &[],
+        None => Ok(Ids::new()),
     }
 }
 
@@ -56,7 +56,7 @@ fn place_among(
     graph: &Txn<TlRules>,
     keys: &Keys,
     listing: Listing,
-    ids: &[Text],
+    ids: &Ids,
     index: &str,
     id: &str,
 ) -> usize
@@ -66,17 +66,24 @@ fn place_among(
         → IsPlaceAmong listing (records_of keys.now graph.now) (place_at index.now id.now)
         ids.now result }
 {
-    ids.partition_point(|other| {
-        listing.is_before(
-            record_at(graph, keys, other.as_str()),
-            other.as_str(),
-            index,
-            id,
-        )
-    })
+    let mut low = 0;
+    let mut high = ids.len();
+    'halves: while low < high {
+        let middle = low + (high - low) / 2;
+        let Some(other) = ids.get(middle) else {
+            unreachable!();
+        };
+        let there = record_at(graph, keys, other.as_str());
+        if listing.is_before(there, other.as_str(), index, id) {
+            low = middle + 1;
+            continue;
+        }
+        high = middle;
+    }
+    low
 }
 
-// Takes an id out of the list in which its record stands, which is this. It costs three copies of the list.
+// Takes an id out of the list in which its record stands, which is this. It costs a copy of a part of the list.
 fn unlist(
     alloc: Global,
     graph: &mut Txn<TlRules>,
@@ -96,13 +103,13 @@ fn unlist(
         return Ok(());
     };
     let key = listing.key(alloc, owner)?;
-    let ids = ids_at(graph, &key);
-    let place = place_among(graph, keys, listing, ids, listing.index(record_), id);
-    let rest = without_id(alloc, ids, place)?;
+    let ids = ids_at(graph, &key)?;
+    let place = place_among(graph, keys, listing, &ids, listing.index(record_), id);
+    let rest = without_id(alloc, &ids, place)?;
     set_atom(alloc, graph, key, TlValue::Ids(rest))
 }
 
-// Puts an id into the list in which its record is to stand, which is this. It costs three copies of the list.
+// Puts an id into the list in which its record is to stand, which is this. It costs a copy of a part of the list.
 fn enlist(
     alloc: Global,
     graph: &mut Txn<TlRules>,
@@ -122,9 +129,9 @@ fn enlist(
         return Ok(());
     };
     let key = listing.key(alloc, owner)?;
-    let ids = ids_at(graph, &key);
-    let place = place_among(graph, keys, listing, ids, listing.index(record_), id);
-    let more = with_id(alloc, ids, place, id)?;
+    let ids = ids_at(graph, &key)?;
+    let place = place_among(graph, keys, listing, &ids, listing.index(record_), id);
+    let more = with_id(alloc, &ids, place, id)?;
     set_atom(alloc, graph, key, TlValue::Ids(more))
 }
 

@@ -78,8 +78,8 @@ impl RecordStore {
     /// Sets the record of an id, or takes it away, and gives the one before. It counts one step. Where no transaction is
     /// open the write counts as committed.
     ///
-    /// It costs a look-up and a copy of the record, what becomes stale, and three copies of each list that the id leaves or
-    /// joins: the new list, the one before for an undoing, and the new one for `diffs_since`.
+    /// It costs a look-up and a copy of the record, what becomes stale, and in each list that the id leaves or joins a look-up
+    /// for each halving and a copy of one part. The list before, for an undoing, and that for `diffs_since` share the others.
     ///
     /// # Errors
     ///

@@ -6,14 +6,14 @@ use crate::texts::{cut, names, text};
 use case_tables::printed;
 use live_views::{WatchFault, WatchId, told, view, watch};
 use record_store::RecordStore;
-use rooms_val::{Steps, Text, Val};
+use rooms_val::{Mem, Steps, Text, Val};
 use shape_tree::limits::MOST_LEVELS;
 use shape_tree::{Rect, View};
 use std::alloc::Global;
 use std::marker::Brand;
 use std::sync::ledger::{Blank, Ledger};
 use std::test::Fail;
-use tl_rules::{Level, TlKey, TlValue};
+use tl_rules::{Level, Part, TlKey, TlValue};
 
 // The key of a text.
 fn key(alloc: Global, asked: &str) -> Result<TlKey, Fail> {
@@ -55,10 +55,21 @@ pub(crate) fn box_text(alloc: Global, found: Option<Rect>) -> Result<String, Fai
 fn value_text(alloc: Global, value: &TlValue) -> Result<String, Fail> {
     match value {
         TlValue::Rec(record) => maybe_text(alloc, record.as_ref()),
-        TlValue::Ids(ids) => names(alloc, ids.as_slice()),
+        TlValue::Ids(ids) => names(alloc, &copied(alloc, ids.parts())?),
         TlValue::Number(number) => Ok(format!(in alloc; "{number}")?),
         TlValue::Rect(rect) => box_text(alloc, *rect),
     }
+}
+
+// Copies of the ids of some parts.
+fn copied(alloc: Global, parts: &[Part]) -> Mem<Vec<Text>> {
+    let mut ids = Vec::new(alloc);
+    for part in parts {
+        for id in part.as_slice() {
+            ids.push(id.copy(alloc)?)?;
+        }
+    }
+    Ok(ids)
 }
 
 fn ask_in<L: Ledger>(

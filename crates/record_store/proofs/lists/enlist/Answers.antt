@@ -29,9 +29,9 @@ returns-clause-lists c =
     let key = c.in_ok-key.key in
     let n = c.place_among-place.result in
     let rising = rising-records c.args.keys.now (atoms_of c.args.graph.now) in
-    let ids : c.ids_at-ids.result.now ≡ listed l (without_key m id) owner =
-    ids_are l c.args.graph.now (without_key m id) owner key c.ids_at-ids.result.now c.requires.lists c.in_ok-key.ensures c.ids_at-ids.ensures in
-    let point = place_to_join l m id d rising owner c.index.result.now c.ids_at-ids.result.now n c.index.ensures ids c.place_among-place.ensures.place in
+    let ids : c.in_ok-ids.ids ≡ listed l (without_key m id) owner =
+    ids_are l c.args.graph.now (without_key m id) owner key c.in_ok-ids.ids c.requires.lists c.in_ok-key.ensures c.in_ok-ids.ensures in
+    let point = place_to_join l m id d rising owner c.index.result.now c.in_ok-ids.ids n c.index.ensures ids c.place_among-place.ensures.place in
     let change : ChangesOnly (λ k. k ≡ key_of l owner) c.args.graph.now c.set_atom.new.graph =
     subst (λ (x : TlKey). ChangesOnly (λ k. k ≡ x) c.args.graph.now c.set_atom.new.graph) c.in_ok-key.ensures c.set_atom.ensures.left in
     on_ok c.set_atom.result
