@@ -1,3 +1,4 @@
+pub mod Clips
 pub mod Schemas
 pub mod Histories
 pub mod Accepting

@@ -6,6 +6,7 @@ use Rattle.field_ops.specs.RecordOps.{put, RecordOps}
 use Rattle.field_ops.specs.ViewRecordOps.{op_of}
 use Rattle.doc_model.specs.Documents.{replay}
 use Rattle.doc_model.specs.Marks.{Marks, no_marks}
+use Rattle.room_model.specs.Clips.{ClipTree}
 use Rattle.room_model.specs.Schemas.{ClientSchema, WorldSchemas, Plan, doc, seen_along}
 use Rattle.room_model.specs.Histories.{History, records_of, up_to, oldest, above, is_by}
 use Rattle.room_model.specs.Messages.{others_of}
@@ -46,6 +47,8 @@ pub record Client : Type 0 where
   pub refused : Option EndReason
   -- what it can take back, and do again
   pub marks : Marks
+  -- what it copied last, if it copied anything
+  pub clip : Option ClipTree
   -- how many pushes it made, at most 2^53 - 1
   pub pushes : ℕ
 
@@ -59,6 +62,7 @@ new_client version = record {
   presence = None;
   refused = None;
   marks = no_marks;
+  clip = None;
   pushes = 0;
 }
 

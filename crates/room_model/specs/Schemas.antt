@@ -9,6 +9,7 @@ use Rattle.field_ops.specs.RecordOps.{RecordOps}
 use Rattle.migrate_seq.specs.Versions.{Versions}
 use Rattle.migrate_seq.specs.declared.place.Place.{Place}
 use Rattle.sync_msgs.specs.declared.end_reason.EndReason.{EndReason}
+use Rattle.room_model.specs.Clips.{Clipping}
 
 -- the migrations that lead from a client's schema to the room's, in their order
 abbrev pub Plan : Type 0
@@ -41,10 +42,11 @@ pub record ClientSchema (F : Type 0) : Type 0 where
   -- the newest migration of each sequence, as the client tells it when it connects
   pub versions : Versions
 
--- what the schemas of a world decide: the room's, and those of clients by their version
+-- what the schemas of a world decide: the room's, and those of clients by their version; and what is copied and pasted
 pub record WorldSchemas (F : Type 0) : Type 0 where
   pub room : Schemas
   pub client : ℕ → ClientSchema F
+  pub clips : Clipping
 
 -- a session as accepting and messages know it
 pub record Member : Type 0 where

@@ -10,10 +10,13 @@ use Rattle.field_ops.specs.RecordOps.{RecordOps}
 use Rattle.doc_model.specs.Inverses.{inverse_diff}
 use Rattle.doc_model.specs.Marks as marks
 use Rattle.doc_model.specs.Marks.{Marks}
+use Rattle.room_model.specs.Clips.{ClipTree, TargetTree}
 use Rattle.room_model.specs.Schemas.{WorldSchemas, doc, pres}
 use Rattle.room_model.specs.Histories.{History, records_of}
 use Rattle.room_model.specs.Rooms.{Room, new_room, after_enter, is_full, session_at, Replied, after_message, after_leave, Notice, snapshot_at, updates_between, pong, end, Given, next_for, after_drain}
 use Rattle.room_model.specs.Replicas.{Client, new_client, session_of, Pushing, after_edit, after_diff, after_presence, after_cut, after_notice, schema_of, shown_document, others}
+use Rattle.room_model.specs.declared.clip_fault.ClipFault.{ClipFault}
+use Rattle.room_model.specs.declared.clip_fault.PasteFault.{PasteFault}
 use Rattle.room_model.specs.declared.connection.Connection.{Connection}
 use Rattle.room_model.specs.declared.connection.Connection.TheVariants.{Off, Asking, Open}
 use Rattle.room_model.specs.declared.event.Event.{Event}
@@ -21,7 +24,7 @@ use Rattle.room_model.specs.declared.event.Event.TheVariants as event
 use Rattle.room_model.specs.declared.fault.ConnectFault.{ConnectFault}
 use Rattle.room_model.specs.declared.fault.ConnectFault.TheVariants.{AlreadyOpen, Refused}
 use Rattle.room_model.specs.declared.fault.StepFault.{StepFault}
-use Rattle.room_model.specs.declared.fault.StepFault.TheVariants.{NoSuchClient, NoSuchSession, NothingThere, Edit, Connect, NoMark, Limit}
+use Rattle.room_model.specs.declared.fault.StepFault.TheVariants.{NoSuchClient, NoSuchSession, NothingThere, Edit, Connect, NoMark, Limit, Clip, NoClip, Paste}
 use Rattle.room_model.specs.declared.line.OutLine.{OutLine}
 use Rattle.room_model.specs.declared.line.OutLine.TheVariants as line
 use Rattle.room_model.specs.declared.limits.TheConstants.{MOST_CLIENTS, MOST_RECORDED, LAST_CLOCK, PROTOCOL}
@@ -209,6 +212,27 @@ module _ {F : Type 0} (schemas : WorldSchemas F) where
   on_edit number wanted world =
       at_client number world (λ client. take_edit number world client ((schema_of schemas client).complete (shown_in world client) wanted))
 
+  -- what a client copied is its clip
+  abbrev pub take_clip : ℕ → World → Client → Result ClipTree ClipFault → Outcome F
+  take_clip number world client (Err fault) = Err (Clip fault)
+  take_clip number world client (Ok clip) = happens [] (with_client number (record client { clip = Some clip }) world)
+
+  -- a client copies shapes of what it shows
+  abbrev pub on_copy : ℕ → List (List ℕ) → World → Outcome F
+  on_copy number ids world =
+      at_client number world (λ client. take_clip number world client (schemas.clips.copied (shown_in world client) ids))
+
+  -- what is to be pasted is an edit
+  abbrev pub edit_pasted : ℕ → World → Result RecordOps PasteFault → Outcome F
+  edit_pasted number world (Err fault) = Err (Paste fault)
+  edit_pasted number world (Ok wanted) = on_edit number wanted world
+
+  -- a client pastes its clip into what it shows
+  abbrev pub on_paste : ℕ → TargetTree → World → Outcome F
+  on_paste number target world =
+      at_client number world (λ client.
+      option_map_or (λ clip. edit_pasted number world (schemas.clips.pasted clip (shown_in world client) target)) client.clip (Err NoClip))
+
   -- a client sets its presence
   abbrev pub on_presence : ℕ → Data → World → Outcome F
   on_presence number d world =
@@ -292,6 +316,9 @@ module _ {F : Type 0} (schemas : WorldSchemas F) where
   after_event trace world (event.Undo client) = on_undo client world
   after_event trace world (event.Redo client) = on_redo client world
   after_event trace world (event.Bail client name) = on_bail client name world
+  after_event trace world (event.Copy client ids) = on_copy client ids world
+  after_event trace world (event.Paste client dx dy parent prefix) =
+      on_paste client (record { prefix = prefix; parent = parent; dx = dx; dy = dy }) world
   after_event trace world (event.Handle session) = on_handle trace session world
   after_event trace world (event.Send session) = on_send trace session world
   after_event trace world (event.Deliver client) = on_deliver client world

@@ -1,4 +1,5 @@
 //! Why an event can't happen.
+use crate::clip_fault::{ClipFault, PasteFault};
 use sync_msgs::EndReason;
 
 /// Why a client can't connect.
@@ -29,6 +30,12 @@ pub enum StepFault<F: Drop> {
     NoMark,
     /// There is no place for a further client or session.
     Limit,
+    /// There is no copy of these shapes; this is never want of memory.
+    Clip(ClipFault),
+    /// The client has copied nothing.
+    NoClip,
+    /// What the client copied isn't pasted; this is never want of memory.
+    Paste(PasteFault),
     /// Memory ran out.
     OutOfMemory,
 }

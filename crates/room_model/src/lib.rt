@@ -4,26 +4,30 @@
 //!
 //! What schemas decide is an argument of all of them, so that they hold at any version: what the room's schema does is one
 //! of rooms, and what it and those of clients do one of worlds. The crate has definitions in `specs/`, the types that they
-//! share with the code, and laws as functions without code. It stands on `rooms_val`, `field_ops`, `doc_model`,
-//! `migrate_seq` and `sync_msgs`.
+//! share with the code, and laws as functions without code. It stands on `rooms_val`, `index_keys`, `field_ops`,
+//! `doc_model`, `migrate_seq` and `sync_msgs`.
 #![tactic(auto)]
 
 pub mod accepting;
 pub mod acting;
 pub mod bases;
+pub mod clip_fault;
 pub mod connection;
 pub mod event;
 pub mod fault;
 pub mod handled;
 pub mod histories;
 pub mod history;
+pub mod id_list;
 pub mod limits;
 pub mod line;
 pub mod rooms;
 
+pub use clip_fault::{ClipFault, PasteFault};
 pub use connection::Connection;
 pub use event::{Event, Header};
 pub use fault::{ConnectFault, StepFault};
 pub use handled::Handled;
 pub use history::{Author, Entry};
+pub use id_list::IdList;
 pub use line::OutLine;

@@ -30,7 +30,7 @@ pub const MOST_SESSIONS: u64 = 64;
 pub const MOST_ENTERED: u64 = GREATEST_WHOLE as u64;
 
 /// The number of the protocol that rooms speak.
-pub const PROTOCOL: i64 = 1;
+pub const PROTOCOL: i64 = 2;
 
 /// The most clients of a recording.
 pub const MOST_CLIENTS: u64 = 64;

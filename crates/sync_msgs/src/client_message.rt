@@ -15,7 +15,7 @@ pub enum ClientMessage {
         connect_request_id: Text,
         /// The clock that the client has reached, -1 where it was never connected.
         last_server_clock: i64,
-        /// The number of the protocol that it speaks; this project's is 1.
+        /// The number of the protocol that it speaks; this project's is 2.
         protocol_version: i64,
         /// The newest migration of each sequence that it knows.
         schema: Serialized,

@@ -25,7 +25,7 @@ pub enum ServerMessage {
         hydration_type: Hydration,
         /// The text that the client gave.
         connect_request_id: Text,
-        /// The number of the protocol, which is 1.
+        /// The number of the protocol, which is 2.
         protocol_version: i64,
         /// The room's own schema.
         schema: Serialized,
