@@ -17,11 +17,14 @@ use Rattle.doc_model.specs.Restoring.{Restores, AreBackAdmitted}
 use Rattle.doc_model.proofs.InverseLemmas.{rising-step}
 use Rattle.doc_model.proofs.ReplayLemmas.{replay-push}
 use Rattle.doc_model.proofs.RestoreLemmas.{mark_restores, other_keeps, edit_keeps, bail_restores, undo_is_bail}
+use Rattle.room_model.specs.Clips.{ClipTree}
 use Rattle.room_model.specs.Schemas.{WorldSchemas, AreLawfulTogether, doc}
 use Rattle.room_model.specs.Histories.{records_of, up_to}
 use Rattle.room_model.specs.Rooms.{Notice, next_for}
 use Rattle.room_model.specs.Replicas.{after_end, after_notice, Work, edit, presence, Pending, Client, new_client, is_open, session_of, diff_in, pending_diffs, Pushing, push_none, push_all, push_times, next_push, send_first, with_work, unsent, all_unsent, after_diff, after_presence, after_cut, schema_of, plan_of, seen_by, base_of}
-use Rattle.room_model.specs.Worlds.{Channel, World, Stepped, with_client, with_channel, with_pushing, Outcome, happens, at_client, ask, is_at_limit, connect_if_allowed, shown_in, inverse_in, take_edit, after_marked, handle_first, deliver_first, after_event}
+use Rattle.room_model.specs.Worlds.{Channel, World, Stepped, with_client, with_channel, with_pushing, Outcome, happens, at_client, ask, is_at_limit, connect_if_allowed, shown_in, inverse_in, take_edit, take_clip, edit_pasted, after_marked, handle_first, deliver_first, after_event}
+use Rattle.room_model.specs.declared.clip_fault.ClipFault.{ClipFault}
+use Rattle.room_model.specs.declared.clip_fault.PasteFault.{PasteFault}
 use Rattle.room_model.specs.declared.connection.Connection.TheVariants.{Asking}
 use Rattle.room_model.specs.declared.event.Event.{Event}
 use Rattle.room_model.specs.declared.event.Event.TheVariants as event
@@ -191,6 +194,14 @@ module _ {F : Type 0} (schemas : WorldSchemas F) (w : World) (n : ℕ) (c : Clie
         edits diff (lawful.completed_rises e.version (shown_in schemas w e) wanted diff is)
         (subst (λ x. GoesOn x p.client (marks.after_edit (inverse_in schemas w x diff) x.marks) (pending_diffs x ++ diff ∷ [])) it (worked_on e with_inverse (edit diff) refl refl refl))) w refl
 
+    paste_spared : AreLawfulTogether schemas → (m : ℕ) (o : Result RecordOps PasteFault) → Holds IsSpared (edit_pasted schemas m w o)
+    paste_spared lawful m (Err fault) = tt
+    paste_spared lawful m (Ok wanted) = from_option IsSpared _ (slice_get w.clients m) _ (λ none. tt) (λ e there. edit_spared lawful m e wanted there _ refl)
+
+    copy_spared : (m : ℕ) (e : Client) (o : Result ClipTree ClipFault) → slice_get w.clients m ≡ Some e → Holds {F = F} IsSpared (take_clip schemas m w e o)
+    copy_spared m e (Err fault) there = tt
+    copy_spared m e (Ok clip) there = set_spared m e (record e { clip = Some clip }) there (λ it same. same_on e _ it refl refl refl refl)
+
     mark_spared : (m : ℕ) (other : List ℕ) (e : Client) → slice_get w.clients m ≡ Some e → (m ≡ n → name ≢ other) → IsSpared (with_client m (record e { marks = marks.after_mark other e.marks }) w)
     mark_spared m other e there apart =
         let d : Client = record e { marks = marks.after_mark other e.marks } in
@@ -219,6 +230,9 @@ module _ {F : Type 0} (schemas : WorldSchemas F) (w : World) (n : ℕ) (c : Clie
           in_client m _ (λ e there. from_option IsSpared _ (marks.redo_diff e.marks) _ (λ none. itself) (λ diff is. others_spared m e _ there h w refl))
       spared trace (event.Bail m other) h =
           in_client m _ (λ e there. from_option IsSpared _ (marks.bail_diff other e.marks) _ (λ none. tt) (λ diff is. others_spared m e _ there h w refl))
+      spared trace (event.Copy m ids) h = in_client m _ (λ e there. copy_spared m e _ there)
+      spared trace (event.Paste m dx dy parent prefix) h =
+          in_client m _ (λ e there. from_option IsSpared _ e.clip _ (λ none. tt) (λ clip is. paste_spared lawful m _))
       spared trace (event.Handle k) h = in_session IsSpared k w _ (λ s channel there on. elim channel.to_room as (λ ms. Holds IsSpared (handle_first schemas trace k w channel ms)) [
         | [] ↦ tt
         | (said ∷ messages) ↦ itself

@@ -12,11 +12,14 @@ use Rattle.doc_model.specs.Marks.{Marks, Redo}
 use Rattle.doc_model.specs.Merging.{merge}
 use Rattle.doc_model.proofs.MergeLemmas.{rising-merge}
 use Rattle.doc_model.proofs.InverseLemmas.{rising-inverse_diff}
+use Rattle.room_model.specs.Clips.{ClipTree, TargetTree}
 use Rattle.room_model.specs.Schemas.{WorldSchemas, AreLawfulTogether}
 use Rattle.room_model.specs.Rooms.{Session, Room, Replied, session_at, after_message_in, after_message, leave, after_leave, Notice, Given, next_for, after_drain}
 use Rattle.room_model.specs.Reachable.{Reachable}
 use Rattle.room_model.specs.Replicas.{Work, edit, presence, Client, new_client, is_open, session_of, Pushing, push_none, push_all, with_work, after_presence, after_cut, after_notice, schema_of}
-use Rattle.room_model.specs.Worlds.{Channel, World, world_over, with_client, with_channel, with_pushing, Outcome, happens, at_client, at_session, deliver_first, on_join, on_mark, on_cut, on_lose, on_deliver, is_at_limit, ask, connect_if_allowed, on_connect, shown_in, inverse_in, take_edit, on_edit, on_presence, after_marked, on_undo, on_redo, on_bail, handle_first, on_handle, on_send, on_show, after_event}
+use Rattle.room_model.specs.Worlds.{Channel, World, world_over, with_client, with_channel, with_pushing, Outcome, happens, at_client, at_session, deliver_first, on_join, on_mark, on_cut, on_lose, on_deliver, is_at_limit, ask, connect_if_allowed, on_connect, shown_in, inverse_in, take_edit, on_edit, take_clip, on_copy, edit_pasted, on_paste, on_presence, after_marked, on_undo, on_redo, on_bail, handle_first, on_handle, on_send, on_show, after_event}
+use Rattle.room_model.specs.declared.clip_fault.ClipFault.{ClipFault}
+use Rattle.room_model.specs.declared.clip_fault.PasteFault.{PasteFault}
 use Rattle.room_model.specs.declared.event.Event.{Event}
 use Rattle.room_model.specs.declared.event.Event.TheVariants as event
 use Rattle.room_model.specs.declared.fault.StepFault.TheVariants.{Limit}
@@ -151,6 +154,22 @@ module _ {F : Type 0} (schemas : WorldSchemas F) (P : World → Type 0) (keeps :
     edit_keeps : (n : ℕ) (wanted : RecordOps) → Holds P (on_edit schemas n wanted w)
     edit_keeps n wanted = in_client n _ (λ c at. taken_edit n c wanted _ at refl)
 
+    paste_kept : (n : ℕ) (o : Result RecordOps PasteFault) → Holds P (edit_pasted schemas n w o)
+    paste_kept n (Err fault) = tt
+    paste_kept n (Ok wanted) = edit_keeps n wanted
+
+    copy_kept : (n : ℕ) (c : Client) (o : Result ClipTree ClipFault) → slice_get w.clients n ≡ Some c → Holds {F = F} P (take_clip schemas n w c o)
+    copy_kept n c (Err fault) at = tt
+    copy_kept n c (Ok clip) at =
+        let quiet : Quiet c (record c { clip = Some clip }) = record { version = refl; connection = refl; reached = refl; pending = refl; refused = refl; pushes = refl; redos = λ r. r } in
+        keeps.rests w n c (record c { clip = Some clip }) made at quiet h
+
+    copy_keeps : (n : ℕ) (ids : List (List ℕ)) → Holds P (on_copy schemas n ids w)
+    copy_keeps n ids = in_client n _ (λ c at. copy_kept n c _ at)
+
+    paste_keeps : (n : ℕ) (target : TargetTree) → Holds P (on_paste schemas n target w)
+    paste_keeps n target = in_client n _ (λ c at. from_option P _ c.clip _ (λ none. tt) (λ clip is. paste_kept n (schemas.clips.pasted clip (shown_in schemas w c) target)))
+
     presence_set : (n : ℕ) (d : Data) (c : Client) → slice_get w.clients n ≡ Some c → P (with_pushing n (after_presence d c) w)
     presence_set n d c at =
         let set : Client = record c { presence = Some d } in
@@ -221,6 +240,8 @@ module _ {F : Type 0} (schemas : WorldSchemas F) (P : World → Type 0) (keeps :
     event_keeps trace (event.Undo client) = undo_keeps client
     event_keeps trace (event.Redo client) = redo_keeps client
     event_keeps trace (event.Bail client name) = bail_keeps client name
+    event_keeps trace (event.Copy client ids) = copy_keeps client ids
+    event_keeps trace (event.Paste client dx dy parent prefix) = paste_keeps client (record { prefix = prefix; parent = parent; dx = dx; dy = dy })
     event_keeps trace (event.Handle session) = handle_keeps trace session
     event_keeps trace (event.Send session) = send_keeps trace session
     event_keeps trace (event.Deliver client) = deliver_keeps client

@@ -65,6 +65,7 @@ pub record IsSame (before after : Client) : Type 0 where
   pub presence : after.presence ≡ before.presence
   pub refused : after.refused ≡ before.refused
   pub marks : after.marks ≡ before.marks
+  pub clip : after.clip ≡ before.clip
 
 pub next_same : (c : Client) (p : Pushing) → next_push c ≡ Some p → (work : Work) × (first_unsent c.pending ≡ Some work) × (p ≡ push_one c work)
 next_same c p is =
@@ -77,13 +78,13 @@ next_same c p is =
     ] is
 
 pub same_once : (c : Client) (work : Work) → IsSame c (push_one c work).client
-same_once c work = record { version = refl; connection = refl; reached = refl; presence = refl; refused = refl; marks = refl }
+same_once c work = record { version = refl; connection = refl; reached = refl; presence = refl; refused = refl; marks = refl; clip = refl }
 
 pub same_pushed : (k : ℕ) (c : Client) → IsSame c (push_times k c).client
-same_pushed zero c = record { version = refl; connection = refl; reached = refl; presence = refl; refused = refl; marks = refl }
+same_pushed zero c = record { version = refl; connection = refl; reached = refl; presence = refl; refused = refl; marks = refl; clip = refl }
 same_pushed (suc k) c =
     elim (next_push c) as (λ o. next_push c ≡ o → IsSame c (option_map_or (λ one. let more = push_times k one.client in record more { messages = one.messages ++ more.messages }) o (push_none c)).client) [
-      | None ↦ λ is. record { version = refl; connection = refl; reached = refl; presence = refl; refused = refl; marks = refl }
+      | None ↦ λ is. record { version = refl; connection = refl; reached = refl; presence = refl; refused = refl; marks = refl; clip = refl }
       | Some p ↦ λ is.
           let h = next_same c p is in
           let one = subst (λ (q : Pushing). IsSame c q.client) (sym h.2) (same_once c h.0) in
@@ -95,6 +96,7 @@ same_pushed (suc k) c =
             presence = later.presence ∙ one.presence;
             refused = later.refused ∙ one.refused;
             marks = later.marks ∙ one.marks;
+            clip = later.clip ∙ one.clip;
           }
     ] refl
 

@@ -7,10 +7,13 @@ use Rattle.std.proofs.lemmas.Option.{slice_get_within}
 use Rattle.rooms_val.specs.View.{data_of}
 use Rattle.field_ops.specs.RecordOps.{RecordOps}
 use Rattle.doc_model.specs.Marks as marks
+use Rattle.room_model.specs.Clips.{ClipTree}
 use Rattle.room_model.specs.Schemas.{WorldSchemas}
 use Rattle.room_model.specs.Rooms.{Room, Notice, Given, next_for, after_drain}
 use Rattle.room_model.specs.Replicas.{Client, new_client, session_of, Pushing, schema_of}
-use Rattle.room_model.specs.Worlds.{Channel, World, world_over, Stepped, with_client, with_channel, with_pushing, Outcome, happens, at_client, is_at_limit, ask, connect_if_allowed, take_edit, handle_first, deliver_first, after_event}
+use Rattle.room_model.specs.Worlds.{Channel, World, world_over, Stepped, with_client, with_channel, with_pushing, Outcome, happens, at_client, is_at_limit, ask, connect_if_allowed, take_edit, take_clip, edit_pasted, handle_first, deliver_first, after_event}
+use Rattle.room_model.specs.declared.clip_fault.ClipFault.{ClipFault}
+use Rattle.room_model.specs.declared.clip_fault.PasteFault.{PasteFault}
 use Rattle.room_model.specs.declared.event.Event.{Event}
 use Rattle.room_model.specs.declared.event.Event.TheVariants as event
 use Rattle.room_model.specs.declared.fault.StepFault.TheVariants.{Limit}
@@ -118,6 +121,14 @@ module _ (w : World) (queues : Queues) (long : length queues ≡ length w.channe
     edited n c (Ok diff) = pushing n _
     edited n c (Err fault) = tt
 
+    pasted : (n : ℕ) (o : Result RecordOps PasteFault) → Goes queues (edit_pasted schemas n w o)
+    pasted n (Ok wanted) = by_client queues n _ (λ c there. edited n c _)
+    pasted n (Err fault) = tt
+
+    copied : (n : ℕ) (c : Client) (o : Result ClipTree ClipFault) → Goes queues (take_clip schemas n w c o)
+    copied n c (Ok clip) = stay _ refl
+    copied n c (Err fault) = tt
+
     allowed : (n : ℕ) (readonly : Bool) (c : Client) (o : Option EndReason) → Goes (queues ++ [] ∷ []) (connect_if_allowed schemas n readonly w c o)
     allowed n readonly c (Some reason) = tt
     allowed n readonly c None = elim (is_at_limit w) as (λ b. Goes (queues ++ [] ∷ []) (cond b (Err Limit) (happens [] (ask schemas n readonly w c)))) [ true ↦ tt | false ↦ added _ refl _ refl ]
@@ -151,6 +162,8 @@ module _ (w : World) (queues : Queues) (long : length queues ≡ length w.channe
     goes trace (event.Undo n) other = by_client queues n _ (λ c there. with_any queues _ (marks.undo_diff c.marks) _ (stay w refl) (λ diff. pushing n _))
     goes trace (event.Redo n) other = by_client queues n _ (λ c there. with_any queues _ (marks.redo_diff c.marks) _ (stay w refl) (λ diff. pushing n _))
     goes trace (event.Bail n name) other = by_client queues n _ (λ c there. with_any queues _ (marks.bail_diff name c.marks) _ tt (λ diff. pushing n _))
+    goes trace (event.Copy n ids) other = by_client queues n _ (λ c there. copied n c _)
+    goes trace (event.Paste n dx dy parent prefix) other = by_client queues n _ (λ c there. with_any queues _ c.clip _ tt (λ clip. pasted n _))
     goes trace (event.Handle k) other = handled trace k
     goes trace (event.Send k) other = absurd (other k refl)
     goes trace (event.Deliver n) other = delivered trace n
