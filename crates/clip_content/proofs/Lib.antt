@@ -1,0 +1,10 @@
+pub mod PlaceLemmas
+pub mod KeptLemmas
+pub mod FieldLemmas
+pub mod TopLemmas
+pub mod CopyLemmas
+pub mod IdLemmas
+pub mod ChildLemmas
+pub mod BoundLemmas
+pub mod StandLemmas
+pub mod AddLemmas

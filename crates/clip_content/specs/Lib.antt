@@ -1,0 +1,4 @@
+pub mod Copied
+pub mod Pasted
+pub mod View
+pub mod Laws
