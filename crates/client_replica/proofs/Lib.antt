@@ -1,4 +1,6 @@
 pub mod StashLemmas
 pub mod PartLemmas
 pub mod WorkLemmas
+pub mod OwnLemmas
 pub mod ReplicaLemmas
+pub mod TakenLemmas

@@ -1,12 +1,12 @@
 -- Pending works one by one: their diffs, and what events take of them.
-use Rattle.std.proofs.Common.{◌≡◌, ◌≤◌, ◌+◌, ℕ, zero, suc, add-one, List, [], ◌∷◌, ◌++◌, length, map, drop, Bool, true, false, cond, ◌||◌, Some, option_map, slice_get, zero-add, le_refl, refl, ap, subst, ◌∙◌, arith}
+use Rattle.std.proofs.Common.{◌≡◌, ◌≤◌, ◌+◌, ℕ, zero, suc, add-one, List, [], ◌∷◌, ◌++◌, length, map, take, drop, Bool, true, false, cond, ◌||◌, Some, option_map, slice_get, zero-add, le_refl, refl, sym, ap, subst, ◌∙◌, arith}
 use Rattle.std.specs.Prelude.{is_some, filter}
 use Rattle.std.proofs.lemmas.List.Sums.{sum_by-cons, sum_by-append}
 use Rattle.std.proofs.lemmas.List.Folds.{list_any-append}
 use Rattle.rooms_val.specs.Data.{Data, Pairs}
 use Rattle.rooms_val.specs.Maps.{value_at}
 use Rattle.field_ops.specs.RecordOps.{RecordOps}
-use Rattle.doc_model.specs.Documents.{replay}
+use Rattle.doc_model.specs.Documents.{step, replay}
 use Rattle.room_model.specs.Replicas.{Work, edit, presence, Pending, diff_in, all_unsent}
 use Rattle.room_model.specs.Taking.{first_diff}
 use Rattle.sync_msgs.specs.declared.data_event.Action.TheVariants.{Commit, Discard, Rebase}
@@ -134,3 +134,56 @@ map-filter f test (x ∷ xs) =
 pub few_more : (k i : ℕ) (event : DataEvent) (n : ℕ) → n ≡ ended_by event → k ≤ i → k + n ≤ i + 1
 few_more k i (Patch diff clock) n is few = omega arith
 few_more k i (PushResult client clock action) n is few = omega arith
+
+-- an edit alone is replayed as a step
+pub replay-one : (admits : List ℕ → Data → Bool) (m : Pairs) (work : Work) → replay admits m (diffs_in (work ∷ [])) ≡ step admits m (pushed_diff (Some work))
+replay-one admits m (edit diff) = refl
+replay-one admits m (presence d) = refl
+
+-- one work more is replayed
+pub replay-next : (admits : List ℕ → Data → Bool) (m : Pairs) (works : List Work) (i : ℕ)
+    → replay admits m (diffs_in (take (suc i) works)) ≡ step admits (replay admits m (diffs_in (take i works))) (pushed_diff (slice_get works i))
+replay-next admits m [] zero = refl
+replay-next admits m [] (suc i) = refl
+replay-next admits m (work ∷ works) zero = replay-one admits m work
+replay-next admits m (work ∷ works) (suc i) =
+    replay-first admits m work (take (suc i) works) ∙ replay-next admits (replay admits m (diffs_in (work ∷ []))) works i
+    ∙ ap (λ n. step admits n (pushed_diff (slice_get works i))) (sym (replay-first admits m work (take i works)))
+
+named-one : (work : Work) (id : List ℕ) → is_named (diffs_in (work ∷ [])) id ≡ is_some (value_at (pushed_diff (Some work)) id)
+named-one (edit diff) id = or_false (is_some (value_at diff id))
+named-one (presence d) id = refl
+
+or_left_along : (a b d e : Bool) → b ≡ d || e → a || b ≡ (a || d) || e
+or_left_along true b d e is = refl
+or_left_along false b d e is = is
+
+-- and names its ids
+pub named-next : (works : List Work) (i : ℕ) (id : List ℕ)
+    → is_named (diffs_in (take (suc i) works)) id ≡ is_named (diffs_in (take i works)) id || is_some (value_at (pushed_diff (slice_get works i)) id)
+named-next [] zero id = refl
+named-next [] (suc i) id = refl
+named-next (work ∷ works) zero id = named-one work id
+named-next (work ∷ works) (suc i) id =
+    let one = is_named (diffs_in (work ∷ [])) id in
+    let last = is_some (value_at (pushed_diff (slice_get works i)) id) in
+    named-first work (take (suc i) works) id
+    ∙ or_left_along one (is_named (diffs_in (take (suc i) works)) id) (is_named (diffs_in (take i works)) id) last (named-next works i id)
+    ∙ ap (λ b. b || last) (sym (named-first work (take i works) id))
+
+or_first : (a b : Bool) → a ≡ true → a || b ≡ true
+or_first true b is = refl
+or_first false b is = absurd cc
+
+or_second : (a b : Bool) → b ≡ true → a || b ≡ true
+or_second true b is = refl
+or_second false b is = is
+
+-- what one work names is named
+pub named_there : (works : List Work) (i : ℕ) (id : List ℕ) → is_some (value_at (pushed_diff (slice_get works i)) id) ≡ true → is_named (diffs_in works) id ≡ true
+named_there [] zero id is = absurd cc
+named_there [] (suc i) id is = absurd cc
+named_there (work ∷ works) zero id is =
+    named-first work works id ∙ or_first (is_named (diffs_in (work ∷ [])) id) (is_named (diffs_in works) id) (named-one work id ∙ is)
+named_there (work ∷ works) (suc i) id is =
+    named-first work works id ∙ or_second (is_named (diffs_in (work ∷ [])) id) (is_named (diffs_in works) id) (named_there works i id is)

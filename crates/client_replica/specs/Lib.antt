@@ -1,5 +1,6 @@
 pub mod Parts
 pub mod Works
 pub mod Stashes
+pub mod Owns
 pub mod Standing
 pub mod Lending

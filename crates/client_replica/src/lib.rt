@@ -7,6 +7,7 @@
 //! for what events make of a replica.
 #![tactic(auto)]
 
+mod own;
 mod rebase;
 pub mod replica;
 mod stash;

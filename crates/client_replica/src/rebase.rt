@@ -206,7 +206,7 @@ fn ended_by(event: &DataEvent) -> usize
 }
 
 // The work at a place, the oldest at 0. `None` exactly past the end.
-fn work_at(works: &VecDeque<Work>, place: usize) -> Option<&Work>
+pub(crate) fn work_at(works: &VecDeque<Work>, place: usize) -> Option<&Work>
     ensures { option_copied result ≡ slice_get works.now.items place }
 {
     works.get(place)

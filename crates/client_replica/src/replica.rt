@@ -1,5 +1,5 @@
 //! A replica of a room's document, with edits over it that the room hasn't answered.
-ghost use Rattle.std.specs.Prelude.{◌≡◌, ◌+◌, ◌*◌, ◌≤◌, ◌∷◌, [], length, drop, map, slice_get, is_some, IfOk, OnOk, OnErr};
+ghost use Rattle.std.specs.Prelude.{◌≡◌, ◌+◌, ◌*◌, ◌≤◌, ◌∷◌, [], List, length, drop, map, slice_get, is_some, true, false, IfOk, OnOk, OnErr};
 ghost use Rattle.std.specs.Option.{option_copied};
 ghost use Rattle.std.specs.Borrow.{sem};
 ghost use Rattle.rooms_val.specs.View.{data_of};
@@ -9,11 +9,14 @@ ghost use Rattle.room_model.specs.Replicas.{edit, presence, diff_in};
 ghost use Rattle.room_model.specs.Schemas.{records_with};
 ghost use Rattle.schema_core.specs.SchemaOf.{schema_tree};
 ghost use Rattle.room_model.specs.Taking as model;
+ghost use Rattle.sync_msgs.specs.declared.data_event.DataEvent.{DataEvent};
 ghost use Rattle.room_model.specs.Taking.{after_events, after_hydration};
 ghost use Rattle.client_replica.specs.Parts.{wiped};
 ghost use Rattle.client_replica.specs.Works.{work_of, works_in, diffs_in, operations, brought};
+ghost use Rattle.client_replica.specs.Owns.{are_own, AreChanges};
 ghost use Rattle.client_replica.specs.Standing.{IsReplica, Stands, admits_of, document_of, presence_of, with_work, alone, after_snapshot};
 
+use crate::own::{own_changes, settle};
 use crate::rebase::{replay, take_events};
 use crate::stash::Stash;
 use crate::stepping::{step_base, wipe};
@@ -115,10 +118,12 @@ impl<D: DocStore> Replica<D> {
         self.others = Fields::new(alloc);
     }
 
-    /// Takes what happened in the room: the pending edits are undone, the events are done to the base in order, each result
-    /// ends the first pending work, and what is left is replayed. It costs what is pending, what the events bring, and a
-    /// copy of the presence of others, and counts at most two steps for each pending operation and one for each that the
-    /// events bring. Where memory is refused the replica is as before.
+    /// Takes what happened in the room: the events are done to the base in order, and each result ends the first pending
+    /// work. Where each commits the first pending work, the store stays and no step is counted: it costs what the works name,
+    /// and for each id a walk over the works left up to the next that names it. Else the pending edits are undone, and what
+    /// is left is replayed: it costs what is pending, what the events bring, and a copy of the presence of others, and counts
+    /// at most two steps for each pending operation and one for each that the events bring. Where memory is refused the
+    /// replica is as before.
     pub fn take_events<L: Ledger>(
         &mut self,
         alloc: Global,
@@ -135,19 +140,18 @@ impl<D: DocStore> Replica<D> {
         ensures ticks { (replica : model.Replica) → Stands D.records replica self.old
             → steps.new ≤ steps.old + (2 * operations (diffs_in
             (works_in replica.pending)) + brought events.now) }
+        ensures own { OnOk result ((replica : model.Replica) → Stands D.records replica self.old
+            → are_own (document_of self.old) (works_in replica.pending) events.now ≡ true
+            → (steps.new ≡ steps.old) × (self.new.store ≡ self.old.store)) }
     {
-        let mut others = self.others.copy(alloc)?;
-        begin(&mut self.store)?;
-        match self.rebase(alloc, &mut others, events, steps) {
-            Ok(rebased) => {
-                self.store.commit();
-                self.settle(rebased, others);
+        let changes = own_changes(alloc, &self.schema, &self.stash, &self.works, events)?;
+        match changes {
+            Some(changes) => {
+                let count = events.as_slice().len();
+                self.settle_own(changes, count);
                 Ok(())
             }
-            Err(_) => {
-                self.store.abort();
-                Err(OutOfMemory)
-            }
+            None => self.take_others(alloc, events, steps),
         }
     }
 
@@ -186,6 +190,55 @@ impl<D: DocStore> Replica<D> {
                 if let Some(record_) = own {
                     self.works.push_back_reserved(Work::Presence(record_));
                 }
+                Ok(())
+            }
+            Err(_) => {
+                self.store.abort();
+                Err(OutOfMemory)
+            }
+        }
+    }
+
+    // Takes events that commit the first pending works, of which there are so many: the store has what it is to have, and the
+    // base goes on under the stash. It takes no memory.
+    fn settle_own(&mut self, changes: Stash, count: usize)
+        ensures ok { (replica : model.Replica) (events : List DataEvent) → count ≡ length events
+            → Stands D.records replica self.old
+            → are_own (document_of self.old) (map work_of self.old.works.items) events ≡ true
+            → AreChanges (schema_tree self.old.schema) (map work_of self.old.works.items) count self.old.stash changes
+            → Stands D.records (after_events (admits_of self.old) replica events) self.new }
+        ensures kept { self.new
+            ≡ record self.old { stash = self.new.stash; works = self.new.works } }
+    {
+        settle(&mut self.stash, &self.works, count, changes);
+        self.stash.tell_rising();
+        drop_first(&mut self.works, count);
+    }
+
+    // Takes events for which the pending edits are undone and what is left of them is replayed.
+    fn take_others<L: Ledger>(
+        &mut self,
+        alloc: Global,
+        events: &Events,
+        steps: &mut Steps<L>,
+    ) -> Mem<()>
+        ensures ok { OnOk result ((replica : model.Replica) → Stands D.records replica self.old
+            → Stands D.records (after_events (admits_of self.old) replica events.now) self.new) }
+        ensures err { OnErr result ((replica : model.Replica) → Stands D.records replica self.old
+            → Stands D.records replica self.new) }
+        ensures schema { self.new.schema ≡ self.old.schema }
+        ensures begun { D.begun self.new.store ≡ D.begun self.old.store }
+        ensures rest { D.rest self.new.store ≡ D.rest self.old.store }
+        ensures ticks { (replica : model.Replica) → Stands D.records replica self.old
+            → steps.new ≤ steps.old + (2 * operations (diffs_in
+            (works_in replica.pending)) + brought events.now) }
+    {
+        let mut others = self.others.copy(alloc)?;
+        begin(&mut self.store)?;
+        match self.rebase(alloc, &mut others, events, steps) {
+            Ok(rebased) => {
+                self.store.commit();
+                self.settle(rebased, others);
                 Ok(())
             }
             Err(_) => {

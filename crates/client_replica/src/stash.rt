@@ -1,13 +1,21 @@
 //! The stash: what stood in a document under the ids that edits name.
-ghost use Rattle.std.specs.Prelude.{◌≡◌, ◌≤◌, ◌+◌, ◌||◌, [], ℕ, List, length, IfOk, OnOk, OnErr, is_some};
+ghost use Rattle.std.specs.Prelude.{◌≡◌, ◌≤◌, ◌+◌, ◌||◌, [], ◌∷◌, None, Some, true, ℕ, List, length, IfOk, IfSome, IfNone, OnOk, OnErr, is_some, string_bytes};
 ghost use Rattle.std.specs.Option.{option_copied};
 ghost use Rattle.rooms_val.specs.Maps.{AreRising, value_at, with_key, without_key};
 ghost use Rattle.field_ops.specs.View.{maybe_data};
+ghost use Rattle.field_ops.specs.ViewRecordOps.{change_of};
+ghost use Rattle.schema_core.specs.Admits.{is_admitted};
+ghost use Rattle.schema_core.specs.SchemaOf.{schema_tree};
+ghost use Rattle.doc_model.specs.Inverses.{record_after};
+ghost use Rattle.doc_store.specs.Slots.{held};
+ghost use Rattle.client_replica.specs.Owns.{laid};
 ghost use Rattle.client_replica.specs.Stashes.{under, written_over, kept, without_all};
 
+use crate::stepping::record_left;
 use doc_store::DocStore;
-use field_ops::Diff;
+use field_ops::{Diff, RecordOp};
 use rooms_val::{Mem, OutOfMemory, Steps, Text, Val};
+use schema_core::Schema;
 use std::alloc::Global;
 use std::collections::BTreeMap;
 use std::marker::Model;
@@ -78,8 +86,81 @@ impl Stash {
         }
     }
 
-    // Holds an id no more.
-    fn remove(&mut self, id: &str)
+    // The record that it holds under an id. `None` exactly where there is none, or it doesn't hold the id.
+    fn get(&self, id: &str) -> Option<&Val>
+        ensures { maybe_data (option_copied result) ≡ held (value_at self.now id.now) }
+    {
+        match self.tree.get(id) {
+            Some(slot) => slot.as_ref(),
+            None => None,
+        }
+    }
+
+    // Holds a record, or that there is none, under an id. Memory is refused only where it didn't hold the id, and then
+    // nothing changes.
+    fn put(&mut self, id: String, slot: Option<Val>) -> Mem<()>
+        ensures ok { OnOk result (self.new ≡ with_key self.old (string_bytes id) (maybe_data slot)) }
+        ensures full { OnErr result (value_at self.old (string_bytes id) ≡ None) }
+        ensures err { OnErr result (self.new ≡ self.old) }
+    {
+        match self.tree.insert(id, slot) {
+            Ok(old) => {
+                drop(old);
+                Ok(())
+            }
+            Err(_) => Err(OutOfMemory),
+        }
+    }
+
+    /// Holds a record, or that there is none, under an id that it holds. It takes no memory.
+    pub(crate) fn replace(&mut self, id: String, slot: Option<Val>)
+        ensures { is_some (value_at self.old (string_bytes id)) ≡ true
+            → self.new ≡ with_key self.old (string_bytes id) (maybe_data slot) }
+    {
+        match self.put(id, slot) {
+            Ok(()) => {}
+            Err(_) => {}
+        }
+    }
+
+    /// Takes what it holds under its first id.
+    pub(crate) fn take_first(&mut self) -> Option<(String, Option<Val>)>
+        ensures some { IfSome result (λ p. self.old ≡ (string_bytes p.0, maybe_data p.1) ∷ self.new) }
+        ensures none { IfNone result (self.old ≡ []) }
+    {
+        self.tree.pop_first()
+    }
+
+    /// The record under an id of which this stash has changes of another, which lies under it.
+    pub(crate) fn over<'a>(&'a self, stash: &'a Stash, id: &str) -> Option<&'a Val>
+        ensures { maybe_data (option_copied result) ≡ laid self.now stash.now [] id.now }
+    {
+        if self.has(id) {
+            self.get(id)
+        } else {
+            stash.get(id)
+        }
+    }
+
+    /// Holds under an id of another stash, which lies under it, what an operation makes of the record there.
+    pub(crate) fn step(
+        &mut self,
+        alloc: Global,
+        schema: &Schema,
+        stash: &Stash,
+        id: &Text,
+        op: &RecordOp,
+    ) -> Mem<()>
+        ensures { OnOk result (self.new ≡ with_key self.old id.now (record_after (is_admitted (schema_tree schema.now)) id.now (Some (change_of op.now)) (laid self.old stash.now [] id.now))) }
+    {
+        let before = self.over(stash, id.as_str());
+        let slot = record_left(alloc, schema, id.as_str(), before, op)?;
+        let key = String::from_str(alloc, id.as_str())?;
+        self.put(key, slot)
+    }
+
+    /// Holds an id no more.
+    pub(crate) fn remove(&mut self, id: &str)
         ensures { self.new ≡ without_key self.old id.now }
     {
         drop(self.tree.remove(id));

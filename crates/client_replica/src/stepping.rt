@@ -1,11 +1,13 @@
 //! What operations do to a base, whose document and whose presence of others stand apart.
-ghost use Rattle.std.specs.Prelude.{◌≡◌, ◌+◌, ◌≤◌, [], ◌∷◌, length, OnOk};
+ghost use Rattle.std.specs.Prelude.{◌≡◌, ◌+◌, ◌≤◌, [], ◌∷◌, length, Some, IfOk, OnOk};
 ghost use Rattle.rooms_val.specs.Maps.{AreRising, set_at};
 ghost use Rattle.field_ops.specs.View.{maybe_data};
 ghost use Rattle.field_ops.specs.ViewRecordOps.{change_of};
 ghost use Rattle.schema_core.specs.Admits.{is_admitted, is_document};
 ghost use Rattle.schema_core.specs.SchemaOf.{schema_tree};
+ghost use Rattle.std.specs.Option.{option_copied};
 ghost use Rattle.doc_model.specs.Documents.{step, step_at};
+ghost use Rattle.doc_model.specs.Inverses.{record_after};
 ghost use Rattle.client_replica.specs.Parts.{ops_with, left_by, wiped};
 ghost use Rattle.room_schemas.specs.Decided.{is_presence};
 
@@ -91,6 +93,28 @@ pub(crate) fn step_store<D: DocStore, L: Ledger>(
         drop(store.write(alloc, id.as_str(), after, steps)?);
     }
     Ok(())
+}
+
+/// What an operation leaves of the record under an id, or of the lack of one: the same where the operation is passed over.
+pub(crate) fn record_left(
+    alloc: Global,
+    schema: &Schema,
+    id: &str,
+    before: Option<&Val>,
+    op: &RecordOp,
+) -> Mem<Option<Val>>
+    ensures { IfOk result (λ after. maybe_data after
+        ≡ record_after (is_admitted (schema_tree schema.now)) id.now (Some (change_of op.now))
+        (maybe_data (option_copied before.entry))) }
+{
+    let left = step_record(alloc, schema, id, before, op)?;
+    match left {
+        Some(after) => Ok(after),
+        None => {
+            let same = Val::copy_of(alloc, before)?;
+            Ok(same)
+        }
+    }
 }
 
 // Does one operation to the presence under an id, where it acts.

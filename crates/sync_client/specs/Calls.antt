@@ -1,5 +1,5 @@
 -- What the calls of a client make of it and of its base, beside what `room_model` says.
-use Rattle.std.specs.Prelude.{ℕ, ◌+◌, ℤ, List, ◌++◌, length, map, decimal, Bool, Option, Some, option_map, option_to_list, unwrap_or, Result, Ok, Err}
+use Rattle.std.specs.Prelude.{ℕ, ◌+◌, ℤ, List, ◌++◌, length, map, decimal, Bool, true, false, Option, Some, option_map, option_to_list, unwrap_or, Result, Ok, Err}
 use Rattle.std.specs.Option.{option_map_or}
 use Rattle.rooms_val.specs.Data.{Data, Pairs}
 use Rattle.field_ops.specs.RecordOps.{RecordOps}
@@ -18,7 +18,8 @@ use Rattle.room_model.specs.declared.connection.Connection.TheVariants.{Off, Ask
 use Rattle.room_model.specs.declared.fault.ConnectFault.{ConnectFault}
 use Rattle.room_model.specs.declared.fault.ConnectFault.TheVariants.{AlreadyOpen, Refused}
 use Rattle.room_model.specs.declared.limits.TheConstants.{PROTOCOL}
-use Rattle.client_replica.specs.Works.{brought}
+use Rattle.client_replica.specs.Works.{works_in, brought}
+use Rattle.client_replica.specs.Owns.{are_own}
 use Rattle.client_replica.specs.Parts.{wiped}
 use Rattle.sync_client.specs.Faults.{clock_after}
 
@@ -83,6 +84,12 @@ module _ (admits : List ℕ → Data → Bool) (is_doc : List ℕ → Bool) wher
   after_message held (message.Connect hydration request protocol schema diff clock readonly) = hydrated hydration diff clock held
   after_message held (message.Data events) = updated events held
   after_message held message.Pong = held
+
+-- each event of a message commits the first of the pending works that are left, which names ids of the document alone
+abbrev pub is_own_message : (List ℕ → Bool) → Client → ServerMessage → Bool
+is_own_message is_doc client (message.Connect hydration request protocol schema diff clock readonly) = false
+is_own_message is_doc client (message.Data events) = are_own is_doc (works_in client.pending) events
+is_own_message is_doc client message.Pong = true
 
 -- how many steps a message may take beside those of the pending edits, by which ids are the document's and the base
 abbrev pub message_steps : (List ℕ → Bool) → Pairs → ServerMessage → ℕ

@@ -37,3 +37,6 @@ returns-clause-ok g c = λ held stands joined.
     after_data records held old c.take_events.new.self c.end.new.self c.args.events.now (to_z w64 (of_z w64 clock)) stands joined
     (c.in_ok-take_events.ensures.ok (replica_of held) stands.replica) (clock_is ∙ checked.clock ∙ (λ i. clock_after (held_is i) (c.as_slice.ensures i))) c.end.ensures.pushes
     (ap (λ n. c.end.new.self.sent + n) (sym (checked.ended ∙ ap (sum_by ended_by) c.as_slice.ensures)) ∙ c.end.ensures.sent)
+
+pub returns-clause-own : goal.returns-clause-own
+returns-clause-own g c = λ held stands own. c.in_ok-take_events.ensures.own (replica_of held) stands.replica own
