@@ -10,6 +10,10 @@ use Rattle.schema_core.specs.declared.fault.RecordFault.{RecordFault}
 use Rattle.schema_core.specs.declared.fault.RecordFault.TheVariants as of_record
 use Rattle.side_effects.specs.declared.fault.EditFault.{EditFault}
 use Rattle.side_effects.specs.declared.fault.EditFault.TheVariants as edit
+use Rattle.room_model.specs.declared.clip_fault.ClipFault.{ClipFault}
+use Rattle.room_model.specs.declared.clip_fault.ClipFault.TheVariants as clip
+use Rattle.room_model.specs.declared.clip_fault.PasteFault.{PasteFault}
+use Rattle.room_model.specs.declared.clip_fault.PasteFault.TheVariants as paste
 use Rattle.room_model.specs.declared.fault.ConnectFault.{ConnectFault}
 use Rattle.room_model.specs.declared.fault.ConnectFault.TheVariants as connect
 use Rattle.room_model.specs.declared.fault.StepFault.{StepFault}
@@ -68,13 +72,17 @@ between_fault_text between.NoRoom = Some (codes "NoRoom")
 between_fault_text between.KeyTooLong = Some (codes "KeyTooLong")
 between_fault_text between.OutOfMemory = None
 
+-- why a shape that is added gets no key
+abbrev pub no_key_text : BetweenFault → Option (List ℕ)
+no_key_text fault = option_map (with_word (codes "NoKey")) (between_fault_text fault)
+
 -- the text of an edit's fault, with the id that it carries
 abbrev pub edit_fault_text : EditFault → Option (List ℕ)
 edit_fault_text edit.TooMany = Some (codes "TooMany")
 edit_fault_text (edit.WrongScope id) = Some (with_word (codes "WrongScope") id)
 edit_fault_text (edit.NoRecord id) = Some (with_word (codes "NoRecord") id)
 edit_fault_text (edit.Invalid id fault) = Some (invalid_text id fault)
-edit_fault_text (edit.NoKey fault) = option_map (with_word (codes "NoKey")) (between_fault_text fault)
+edit_fault_text (edit.NoKey fault) = no_key_text fault
 edit_fault_text edit.LastPage = Some (codes "LastPage")
 edit_fault_text (edit.NoParent id) = Some (with_word (codes "NoParent") id)
 edit_fault_text (edit.UnderItself id) = Some (with_word (codes "UnderItself") id)
@@ -87,6 +95,19 @@ connect_fault_text connect.AlreadyOpen = Some (codes "AlreadyOpen")
 connect_fault_text (connect.Refused reason) = Some (with_word (codes "Refused") (reason_text reason))
 connect_fault_text connect.OutOfMemory = None
 
+-- why there is nothing to copy
+abbrev pub clip_fault_text : ClipFault → Option (List ℕ)
+clip_fault_text (clip.NoShape id) = Some (with_word (codes "NoShape") id)
+clip_fault_text (clip.Doubled id) = Some (with_word (codes "Doubled") id)
+clip_fault_text clip.TooMany = Some (codes "TooMany")
+clip_fault_text clip.OutOfMemory = None
+
+-- why a clip isn't pasted
+abbrev pub paste_fault_text : PasteFault → Option (List ℕ)
+paste_fault_text (paste.Taken id) = Some (with_word (codes "Taken") id)
+paste_fault_text (paste.NoKey fault) = no_key_text fault
+paste_fault_text paste.OutOfMemory = None
+
 -- why an event can't happen
 abbrev pub step_fault_text : StepFault EditFault → Option (List ℕ)
 step_fault_text step.NoSuchClient = Some (codes "NoSuchClient")
@@ -96,4 +117,7 @@ step_fault_text (step.Edit fault) = edit_fault_text fault
 step_fault_text (step.Connect fault) = connect_fault_text fault
 step_fault_text step.NoMark = Some (codes "NoMark")
 step_fault_text step.Limit = Some (codes "Limit")
+step_fault_text (step.Clip fault) = clip_fault_text fault
+step_fault_text step.NoClip = Some (codes "NoClip")
+step_fault_text (step.Paste fault) = paste_fault_text fault
 step_fault_text step.OutOfMemory = None

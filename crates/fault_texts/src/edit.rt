@@ -1,6 +1,6 @@
 //! The text of an edit's fault.
-ghost use Rattle.std.specs.Prelude.{◌≡◌, IfOk, Some, codes, option_map};
-ghost use Rattle.fault_texts.specs.Texts.{between_fault_text, edit_fault_text, invalid_text, with_word};
+ghost use Rattle.std.specs.Prelude.{◌≡◌, IfOk, Some};
+ghost use Rattle.fault_texts.specs.Texts.{no_key_text, edit_fault_text, invalid_text};
 
 use crate::record::record_fault_text;
 use crate::words::with_word;
@@ -34,9 +34,8 @@ pub fn edit_fault_text(alloc: Global, fault: &EditFault) -> Mem<Text>
 }
 
 // The text of a new shape that gets no key.
-fn no_key_text(alloc: Global, fault: BetweenFault) -> Mem<Text>
-    ensures { IfOk result (λ text. option_map (with_word (codes "NoKey")) (between_fault_text fault)
-        ≡ Some text) }
+pub(crate) fn no_key_text(alloc: Global, fault: BetweenFault) -> Mem<Text>
+    ensures { IfOk result (λ text. no_key_text fault ≡ Some text) }
 {
     match fault {
         BetweenFault::NotKey => with_word(alloc, "NoKey", "NotKey"),

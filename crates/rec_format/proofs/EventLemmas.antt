@@ -28,6 +28,8 @@ verb_of_event (event.Mark c name) = verb.Mark
 verb_of_event (event.Undo c) = verb.Undo
 verb_of_event (event.Redo c) = verb.Redo
 verb_of_event (event.Bail c name) = verb.Bail
+verb_of_event (event.Copy c ids) = verb.Copy
+verb_of_event (event.Paste c dx dy parent prefix) = verb.Paste
 verb_of_event (event.Handle s) = verb.Handle
 verb_of_event (event.Send s) = verb.Send
 verb_of_event (event.Deliver c) = verb.Deliver
@@ -51,6 +53,8 @@ says_event (event.Mark c name) = refl
 says_event (event.Undo c) = refl
 says_event (event.Redo c) = refl
 says_event (event.Bail c name) = refl
+says_event (event.Copy c ids) = refl
+says_event (event.Paste c dx dy parent prefix) = refl
 says_event (event.Handle s) = refl
 says_event (event.Send s) = refl
 says_event (event.Deliver c) = refl
@@ -75,6 +79,8 @@ named word =
     else if bytes_eq word (codes "undo") then verb.Undo
     else if bytes_eq word (codes "redo") then verb.Redo
     else if bytes_eq word (codes "bail") then verb.Bail
+    else if bytes_eq word (codes "copy") then verb.Copy
+    else if bytes_eq word (codes "paste") then verb.Paste
     else if bytes_eq word (codes "handle") then verb.Handle
     else if bytes_eq word (codes "send") then verb.Send
     else if bytes_eq word (codes "deliver") then verb.Deliver
@@ -94,6 +100,8 @@ named-word_of verb.Mark = refl
 named-word_of verb.Undo = refl
 named-word_of verb.Redo = refl
 named-word_of verb.Bail = refl
+named-word_of verb.Copy = refl
+named-word_of verb.Paste = refl
 named-word_of verb.Handle = refl
 named-word_of verb.Send = refl
 named-word_of verb.Deliver = refl
@@ -118,6 +126,8 @@ none_of_event ps (event.Mark c name) none proper is = none c name is
 none_of_event ps (event.Undo c) none proper is = none c is
 none_of_event ps (event.Redo c) none proper is = none c is
 none_of_event ps (event.Bail c name) none proper is = none c name is
+none_of_event ps (event.Copy c ids) none proper is = none c ids is
+none_of_event ps (event.Paste c dx dy parent prefix) none proper is = none c dx dy parent prefix proper is
 none_of_event ps (event.Handle s) none proper is = none s is
 none_of_event ps (event.Send s) none proper is = none s is
 none_of_event ps (event.Deliver c) none proper is = none c is

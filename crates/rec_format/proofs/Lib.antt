@@ -1,4 +1,5 @@
 pub mod RefusalLemmas
+mod TextLemmas
 pub mod EventLemmas
 pub mod OneEachLemmas
 pub mod DiffLemmas

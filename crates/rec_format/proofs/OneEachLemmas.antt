@@ -1,8 +1,8 @@
 -- Each value is that of one event at most, and of one header.
-use Rattle.std.proofs.Common.{◌≡◌, ℕ, ◌<◌, ◌≤◌, List, [], ◌∷◌, Bool, false, Result, Ok, Err, IfOk, IfErr, MatchResult, Some, refl, sym, ap, ◌∙◌, arith}
+use Rattle.std.proofs.Common.{◌≡◌, ℕ, ℤ, ◌<◌, ◌≤◌, List, [], ◌∷◌, Bool, false, Result, Ok, Err, IfOk, IfErr, MatchResult, Some, refl, sym, ap, ◌∙◌, arith}
 use Rattle.std.specs.Prelude.{pos}
 use Rattle.rooms_val.specs.Data as data'
-use Rattle.rooms_val.specs.Data.{Data, Pairs, null, pairs_of}
+use Rattle.rooms_val.specs.Data.{Data, Items, Pairs, null, pairs_of}
 use Rattle.rooms_val.specs.View.{val_of}
 use Rattle.rooms_val.proofs.DataLemmas.{pairs_of-members_of, val_of-data_of}
 use Rattle.field_ops.proofs.WireLemmas.{same_map}
@@ -11,6 +11,7 @@ use Rattle.field_ops.specs.WireRecordOps.{change_in, change_in-change_data, diff
 use Rattle.room_model.specs.declared.event.Event.{Event}
 use Rattle.room_model.specs.declared.event.Event.TheVariants as event
 use Rattle.room_model.specs.declared.event.Header.{Header}
+use Rattle.shape_tree.specs.Views.{ids_data}
 use Rattle.view_vals.specs.Queries.{query_data}
 use Rattle.view_vals.specs.Views.{view_data}
 use Rattle.view_vals.proofs.AskingLemmas.{ask_the_same}
@@ -53,6 +54,22 @@ abbrev text_in : Data → List ℕ
 text_in (data'.text t) = t
 text_in d = []
 
+abbrev whole_in : Data → ℤ
+whole_in (data'.whole z) = z
+whole_in d = pos 0
+
+abbrev each_text : Items → List (List ℕ)
+each_text data'.no_items = []
+each_text (data'.item d ds) = text_in d ∷ each_text ds
+
+abbrev texts_in : Data → List (List ℕ)
+texts_in (data'.list ds) = each_text ds
+texts_in d = []
+
+texts_in-ids_data : (ids : List (List ℕ)) → texts_in (ids_data ids) ≡ ids
+texts_in-ids_data [] = refl
+texts_in-ids_data (id ∷ ids) = ap (λ rest. id ∷ rest) (texts_in-ids_data ids)
+
 abbrev truth_in : Data → Bool
 truth_in (data'.boolean b) = b
 truth_in d = false
@@ -93,6 +110,9 @@ said_with verb.Mark ps = world (event.Mark (number_in (first ps)) (text_in (thir
 said_with verb.Undo ps = world (event.Undo (number_in (first ps)))
 said_with verb.Redo ps = world (event.Redo (number_in (first ps)))
 said_with verb.Bail ps = world (event.Bail (number_in (first ps)) (text_in (third ps)))
+said_with verb.Copy ps = world (event.Copy (number_in (first ps)) (texts_in (third ps)))
+said_with verb.Paste ps = world (event.Paste (number_in (first ps)) (whole_in (third ps)) (whole_in (fourth ps)) (text_in (first (rest (rest (rest (rest ps))))))
+    (text_in (first (rest (rest (rest (rest (rest ps))))))))
 said_with verb.Handle ps = world (event.Handle (number_in (second ps)))
 said_with verb.Send ps = world (event.Send (number_in (second ps)))
 said_with verb.Deliver ps = world (event.Deliver (number_in (first ps)))
@@ -112,6 +132,8 @@ said_in (event.Mark c name) = refl
 said_in (event.Undo c) = refl
 said_in (event.Redo c) = refl
 said_in (event.Bail c name) = refl
+said_in (event.Copy c ids) = ap (λ t. world (event.Copy c t)) (texts_in-ids_data ids)
+said_in (event.Paste c dx dy parent prefix) = refl
 said_in (event.Handle s) = refl
 said_in (event.Send s) = refl
 said_in (event.Deliver c) = refl

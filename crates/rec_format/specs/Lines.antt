@@ -5,7 +5,8 @@ use Rattle.rooms_val.specs.Data.{Data}
 use Rattle.rooms_val.specs.Kinds.{field}
 use Rattle.rooms_val.specs.Json.{value_of}
 use Rattle.room_model.specs.declared.event.Header.{Header}
-use Rattle.rec_format.specs.Events.{header_val, IsVersion}
+use Rattle.rec_format.specs.Events.{header_val}
+use Rattle.tl_tables.specs.Tables.{IsVersion}
 use Rattle.rec_format.specs.Recorded.{recorded_val, IsProperRecorded}
 use Rattle.rec_format.specs.Verbs.{word_of}
 use Rattle.rec_format.specs.declared.read.TheConstants.{LONGEST_LINE}

@@ -1,12 +1,13 @@
 -- Which fields are those of no event of a verb.
-use Rattle.std.specs.Prelude.{◌≡◌, ℕ, List, Bool}
+use Rattle.std.specs.Prelude.{◌≡◌, ℕ, ℤ, List, Bool}
 use Rattle.rooms_val.specs.Data.{Pairs}
 use Rattle.rooms_val.specs.declared.val.Val.{Val}
 use Rattle.field_ops.specs.RecordOps.{RecordOps, IsSoundDiff}
 use Rattle.shape_tree.specs.declared.query.Query.{Query}
 use Rattle.shape_tree.specs.declared.view.View.{View}
 use Rattle.room_model.specs.declared.event.Event.TheVariants as event
-use Rattle.rec_format.specs.Events.{event_fields, IsVersion}
+use Rattle.rec_format.specs.Events.{event_fields, IsProper}
+use Rattle.tl_tables.specs.Tables.{IsVersion}
 use Rattle.rec_format.specs.Recorded.{watch_fields, query_fields}
 use Rattle.rec_format.specs.declared.fault.LineFault.{LineFault}
 use Rattle.rec_format.specs.declared.fault.LineFault.TheVariants as line_fault
@@ -23,6 +24,9 @@ IsOfNoEvent verb.Mark ps = (c : ℕ) (name : List ℕ) → ¬ (ps ≡ event_fiel
 IsOfNoEvent verb.Undo ps = (c : ℕ) → ¬ (ps ≡ event_fields (event.Undo c))
 IsOfNoEvent verb.Redo ps = (c : ℕ) → ¬ (ps ≡ event_fields (event.Redo c))
 IsOfNoEvent verb.Bail ps = (c : ℕ) (name : List ℕ) → ¬ (ps ≡ event_fields (event.Bail c name))
+IsOfNoEvent verb.Copy ps = (c : ℕ) (ids : List (List ℕ)) → ¬ (ps ≡ event_fields (event.Copy c ids))
+IsOfNoEvent verb.Paste ps = (c : ℕ) (dx dy : ℤ) (parent prefix : List ℕ) → IsProper (event.Paste c dx dy parent prefix)
+    → ¬ (ps ≡ event_fields (event.Paste c dx dy parent prefix))
 IsOfNoEvent verb.Handle ps = (s : ℕ) → ¬ (ps ≡ event_fields (event.Handle s))
 IsOfNoEvent verb.Send ps = (s : ℕ) → ¬ (ps ≡ event_fields (event.Send s))
 IsOfNoEvent verb.Deliver ps = (c : ℕ) → ¬ (ps ≡ event_fields (event.Deliver c))

@@ -2,11 +2,13 @@
 ghost use Rattle.std.specs.Prelude.{◌≡◌, ℕ, List, Bool, IfOk, IfErr, pos};
 ghost use Rattle.rooms_val.specs.Data.{Data, whole, text, boolean};
 ghost use Rattle.rooms_val.specs.View.{data_of};
-ghost use Rattle.rec_format.specs.Events.{field_of, does, IsVersion};
+ghost use Rattle.rec_format.specs.Events.{field_of, does};
+ghost use Rattle.tl_tables.specs.Tables.{IsVersion};
 
 use crate::fault::IllFormed;
 use crate::verb::Verb;
 use rooms_val::{Text, Val};
+use tl_tables::NEWEST_VERSION;
 
 /// The value of a field with this key. Refused exactly where the key is another one.
 pub(crate) fn val_in<'a>(entry: &'a (Text, Val), key: &str) -> Result<&'a Val, IllFormed>
@@ -64,7 +66,7 @@ pub(crate) fn version_in(entry: &(Text, Val), key: &str) -> Result<u32, IllForme
         (v : ℕ) → IsVersion v → ¬ (field_of entry.now ≡ (key.now, whole (pos v)))) }
 {
     let version = number_in(entry, key)?;
-    if 1 <= version && version <= 3 {
+    if 1 <= version && version <= u64::from(NEWEST_VERSION) {
         Ok(version as u32)
     } else {
         Err(IllFormed)

@@ -8,10 +8,10 @@
 //! messages of a trace, and on `thiserror` for the text of its faults.
 #![tactic(auto)]
 
+mod clips;
 mod entries;
 pub mod fault;
 mod fields;
-pub mod id_list;
 pub mod laws;
 pub mod out;
 pub mod print;
@@ -22,7 +22,6 @@ mod rows;
 mod verb;
 
 pub use fault::LineFault;
-pub use id_list::IdList;
 pub use out::{print_line, print_out, reason_text};
 pub use print::{print_event, print_recorded};
 pub use printed::PrintedLine;

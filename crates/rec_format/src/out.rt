@@ -170,7 +170,7 @@ fn ids_fields(alloc: Global, client: u64, ids: &[Text]) -> Mem<Fields>
 }
 
 // Each id as a value.
-fn ids_vals(alloc: Global, ids: &[Text]) -> Mem<Vals>
+pub(crate) fn ids_vals(alloc: Global, ids: &[Text]) -> Mem<Vals>
     ensures { IfOk result (λ vals. vals ≡ map text ids.now) }
 {
     let mut vals = Vals::new(alloc);

@@ -12,6 +12,7 @@ ghost use Rattle.rec_format.specs.Recorded.{watch_fields, query_fields};
 ghost use Rattle.rec_format.specs.declared.recorded.RecordedEvent.TheVariants as recorded;
 
 use crate::fields::{number, with};
+use crate::out::ids_vals;
 use crate::read::LONGEST_LINE;
 use crate::recorded::RecordedEvent;
 use crate::verb::Verb;
@@ -122,6 +123,28 @@ fn fields_of(alloc: Global, event: &Event) -> Mem<Fields>
         Event::Undo { client } => of_client(alloc, Verb::Undo, *client),
         Event::Redo { client } => of_client(alloc, Verb::Redo, *client),
         Event::Bail { client, name } => of_client_and_name(alloc, Verb::Bail, *client, name),
+        Event::Copy { client, ids } => {
+            let fields = of_client(alloc, Verb::Copy, *client)?;
+            with(
+                alloc,
+                fields,
+                "ids",
+                Val::List(ids_vals(alloc, ids.as_slice())?),
+            )
+        }
+        Event::Paste {
+            client,
+            dx,
+            dy,
+            parent,
+            prefix,
+        } => {
+            let fields = of_client(alloc, Verb::Paste, *client)?;
+            let fields = with(alloc, fields, "dx", Val::Int(*dx))?;
+            let fields = with(alloc, fields, "dy", Val::Int(*dy))?;
+            let fields = with(alloc, fields, "parent", Val::Text(parent.copy(alloc)?))?;
+            with(alloc, fields, "prefix", Val::Text(prefix.copy(alloc)?))
+        }
         Event::Handle { session } => of_session(alloc, Verb::Handle, *session),
         Event::Send { session } => of_session(alloc, Verb::Send, *session),
         Event::Deliver { client } => of_client(alloc, Verb::Deliver, *client),

@@ -1,6 +1,5 @@
 //! What a recording prints, watches and queries among it.
-use crate::id_list::IdList;
-use room_model::OutLine;
+use room_model::{IdList, OutLine};
 use rooms_val::Val;
 
 /// A printed line.

@@ -2,7 +2,8 @@
 ghost use Rattle.std.specs.Prelude.{◌≡◌, IfOk, IfErr, codes, option_map, option_and_then};
 ghost use Rattle.rooms_val.specs.Maps.{value_at};
 ghost use Rattle.rooms_val.specs.View.{data_of};
-ghost use Rattle.rec_format.specs.Events.{header_val, IsVersion};
+ghost use Rattle.rec_format.specs.Events.{header_val};
+ghost use Rattle.tl_tables.specs.Tables.{IsVersion};
 ghost use Rattle.rec_format.specs.Lines.{IsOf, IsHeader, IsEvent, IsNoHeader, text_in};
 ghost use Rattle.rec_format.specs.Lines.{RefusesBytes, RefusesHeader, RefusesLine, RefusesVal};
 ghost use Rattle.rec_format.specs.Recorded.{recorded_val, IsProperRecorded};
@@ -18,8 +19,8 @@ use std::alloc::Global;
 /// How many bytes a line may have without its newline.
 pub const LONGEST_LINE: usize = 1_048_576;
 
-/// The header that a line stands for: `{"recording":1,"version":V}` with V from 1 to 3. It costs
-/// the line.
+/// The header that a line stands for: `{"recording":1,"version":V}` with V a version of the tables.
+/// It costs the line.
 ///
 /// # Errors
 ///

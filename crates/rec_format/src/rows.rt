@@ -3,13 +3,15 @@ ghost use Rattle.std.specs.Prelude.{◌≡◌, ℕ, List, IfOk, IfErr};
 ghost use Rattle.rooms_val.specs.View.{data_of, pairs_view};
 ghost use Rattle.field_ops.specs.RecordOps.{RecordOps, IsSoundDiff};
 ghost use Rattle.field_ops.specs.WireRecordOps.{diff_data};
-ghost use Rattle.rec_format.specs.Events.{event_fields, header_fields, IsProper, IsVersion};
+ghost use Rattle.rec_format.specs.Events.{event_fields, header_fields, IsProper};
+ghost use Rattle.tl_tables.specs.Tables.{IsVersion};
 ghost use Rattle.rec_format.specs.Events.{of_client, of_session, with_name};
 ghost use Rattle.room_model.specs.declared.event.Header.{Header};
 ghost use Rattle.rec_format.specs.Recorded.{recorded_fields, IsProperRecorded};
 ghost use Rattle.rec_format.specs.Rows.{IsOfNoEvent, RefusesRow};
 ghost use Rattle.rec_format.specs.declared.verb.Verb.TheVariants as verb';
 
+use crate::clips::{copy_event, paste_event};
 use crate::entries::{check_verb, number_in, text_in, truth_in, val_in, version_in};
 use crate::fault::{IllFormed, LineFault};
 use crate::recorded::RecordedEvent;
@@ -68,6 +70,8 @@ pub(crate) fn event_in(
             let (client, name) = client_and_name(alloc, entries, Verb::Bail)?;
             Ok(RecordedEvent::World(Event::Bail { client, name }))
         }
+        Verb::Copy => Ok(RecordedEvent::World(copy_event(alloc, entries)?)),
+        Verb::Paste => Ok(RecordedEvent::World(paste_event(alloc, entries)?)),
         Verb::Handle => {
             let session = session_of(entries, Verb::Handle)?;
             Ok(RecordedEvent::World(Event::Handle { session }))
