@@ -23,7 +23,7 @@ use Rattle.sync_msgs.specs.declared.end_reason.EndReason.{EndReason}
 use Rattle.sync_msgs.specs.declared.end_reason.EndReason.TheVariants.{ClientTooOld, ServerTooOld}
 use Rattle.tl_tables.specs.Tables.{IsSchemaAt}
 use Rattle.tl_tables.specs.Trees.{Path, StepTree, add, remove, rename, map_enum, scale, nest, unnest, MigrationTree, SequenceTree, step_tree, migration_tree, sequence_tree}
-use Rattle.peer_schemas.specs.Clients.{client_at, schemas_of}
+use Rattle.peer_schemas.specs.Clients.{client_at, schemas_of, clipping}
 use Rattle.tl_tables.proofs.PlanLemmas.{at_of, at_seen, answer_of, answer_seen, newest_of, newest_seen}
 
 -- what a step makes of a map, and where the map stands, by what the step stands for
@@ -198,4 +198,4 @@ same_decided version s t one other =
 
 -- and with it for a world
 pub same_schemas : (version : ℕ) (s t : SchemaTree) → IsSchemaAt version s → IsSchemaAt version t → schemas_of s ≡ schemas_of t
-same_schemas version s t one other = λ i. record { room = same_decided version s t one other i; client = client_at }
+same_schemas version s t one other = λ i. record { room = same_decided version s t one other i; client = client_at; clips = clipping }

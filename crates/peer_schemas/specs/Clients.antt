@@ -8,9 +8,12 @@ use Rattle.migrate_seq.specs.Versions.{Versions}
 use Rattle.schema_core.specs.Admits.{is_admitted}
 use Rattle.schema_core.specs.Builds.{by_name}
 use Rattle.schema_core.specs.Tree.{SchemaTree}
+use Rattle.room_model.specs.Clips.{Clipping}
 use Rattle.room_model.specs.Schemas.{ClientSchema, WorldSchemas}
 use Rattle.room_schemas.specs.Decided.{decided}
 use Rattle.side_effects.specs.Completed.{completed}
+use Rattle.clip_content.specs.Copied.{taken}
+use Rattle.clip_content.specs.Pasted.{pasted}
 use Rattle.side_effects.specs.declared.fault.EditFault.{EditFault}
 use Rattle.side_effects.specs.declared.fault.EditFault.TheVariants as edit
 use Rattle.sync_client.specs.Presences.{presence_fault}
@@ -52,9 +55,13 @@ client_at version = record {
   versions = newest_at version;
 }
 
+-- what is copied and pasted, whatever the version
+abbrev pub clipping : Clipping
+clipping = record { copied = taken; pasted = pasted }
+
 -- what they decide where the room has this schema
 abbrev pub schemas_of : SchemaTree → WorldSchemas EditFault
-schemas_of s = record { room = decided s; client = client_at }
+schemas_of s = record { room = decided s; client = client_at; clips = clipping }
 
 -- schemas are those of the tables: the room's is one of theirs
 pub record AreOfTables (schemas : WorldSchemas EditFault) : Type 0 where

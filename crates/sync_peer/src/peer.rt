@@ -66,7 +66,7 @@ impl Peer {
     /// A peer of a version that was never connected and has no record.
     ///
     /// # Errors
-    /// `NoSuchVersion` exactly for another version than 1 to 3, or `OutOfMemory`.
+    /// `NoSuchVersion` exactly for a version that the tables don't have, or `OutOfMemory`.
     pub fn new(alloc: Global, version: u32) -> Result<Peer, TableFault>
         ensures unknown { IsErrOf result table_fault.NoSuchVersion ↔ (¬ (IsVersion version)) }
         ensures stands { IfOk result (λ peer. (schemas : WorldSchemas EditFault)
@@ -333,12 +333,20 @@ impl Peer {
         ensures { IfOk result (λ val. (schemas : WorldSchemas EditFault) (held : Held)
             → Stands schemas held self.now → val ≡ map_val (shown schemas held)) }
     {
+        Ok(Val::Map(self.records(alloc)?))
+    }
+
+    /// The records that the peer shows, by id. It costs a copy of all records.
+    pub fn records(&self, alloc: Global) -> Mem<Fields>
+        ensures { IfOk result (λ records. (schemas : WorldSchemas EditFault) (held : Held)
+            → Stands schemas held self.now → records ≡ shown schemas held) }
+    {
         let store = self.client.store();
         let mut fields = Fields::new(alloc);
         'ids: for id in store.ids(alloc)? {
             copy_record(alloc, store, id, &mut fields)?;
         }
-        Ok(Val::Map(fields))
+        Ok(fields)
     }
 
     /// What the peer shows is sound, which a look-up tells.

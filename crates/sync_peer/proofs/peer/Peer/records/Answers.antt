@@ -1,11 +1,10 @@
 use Rattle.std.proofs.Common.{sym, ap, subst, ◌∙◌}
-use Rattle.room_model.specs.Worlds.{map_val}
 use Rattle.record_store.specs.Seen.{Seen}
 use Rattle.rooms_val.specs.Maps.{AreRising, added, value_at}
 use Rattle.sync_peer.specs.Calls.{records_of}
 use Rattle.sync_peer.proofs.CopyLemmas.{IsCopied, none_copied, one_copied, all_copied, nothing_left}
 use Rattle.sync_peer.proofs.PeerLemmas.{shown_is}
-use Rattle.sync_peer.proofs.peer.Peer.document.Goals as goal
+use Rattle.sync_peer.proofs.peer.Peer.records.Goals as goal
 
 pub ids-init : goal.ids-init
 ids-init c =
@@ -25,4 +24,4 @@ pub returns : goal.returns
 returns c = λ schemas held stands.
     let so_far = c.ids.invariant in
     let none = nothing_left c.ids.id-iterator.rest.items (sym c.ids.id-iterator.rest.ok.0 ∙ c.in-None.ensures.steps.0) in
-    ap map_val (all_copied (records_of c.args.self.now.client.replica.store) c.ids.fields (subst (IsCopied (records_of c.args.self.now.client.replica.store) c.ids.fields) none so_far) ∙ sym (shown_is schemas held c.args.self.now stands))
+    (all_copied (records_of c.args.self.now.client.replica.store) c.ids.fields (subst (IsCopied (records_of c.args.self.now.client.replica.store) c.ids.fields) none so_far) ∙ sym (shown_is schemas held c.args.self.now stands))

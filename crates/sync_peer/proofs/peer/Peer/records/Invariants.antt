@@ -1,6 +1,6 @@
 use Rattle.sync_peer.specs.Calls.{records_of}
 use Rattle.sync_peer.proofs.CopyLemmas.{IsCopied}
-use Rattle.sync_peer.proofs.peer.Peer.document.Given as goal
+use Rattle.sync_peer.proofs.peer.Peer.records.Given as goal
 
 -- of the records those were copied whose ids were met
 abbrev pub invariant-ids : goal.invariant-ids
