@@ -62,10 +62,11 @@ pub record IsAlike (d c : Client) : Type 0 where
   pub version : d.version ≡ c.version
   pub reached : d.reached ≡ c.reached
   pub connection : d.connection ≡ c.connection
+  pub clip : d.clip ≡ c.clip
 
 diff_alike : (diff : RecordOps) (m : Marks) (c : Client) → IsAlike (with_diff diff (record c { marks = m })) c
-diff_alike [] m c = record { version = refl; reached = refl; connection = refl }
-diff_alike (d ∷ diff) m c = record { version = refl; reached = refl; connection = refl }
+diff_alike [] m c = record { version = refl; reached = refl; connection = refl; clip = refl }
+diff_alike (d ∷ diff) m c = record { version = refl; reached = refl; connection = refl; clip = refl }
 
 abbrev answer : Option RecordOps → Result (Unit {0}) BailFault
 answer o = option_map_or (λ diff. Ok tt) o (Err bail.NoMark)
@@ -123,6 +124,7 @@ module _ (schemas : WorldSchemas EditFault) (w : model.World) (live : Live) (kee
       let kept : IsClient schemas w.room.history d (record one { peer = after }) = record {
         peer = subst (λ b. peer_of.Stands schemas (record { base = b; client = d }) after) (sym (base_alike schemas w.room.history c d refl refl refl)) (marked schemas (held_of schemas w.room.history c) it.kept.peer);
         session = it.kept.session;
+        clip = it.kept.clip;
       } in
       happened schemas w (with_client at d w) false (event.Mark at name) live mid [] lines keeps (if_some _ (slice_get w.clients at) (Err NoSuchClient) c it.made) prints
       (fits_client schemas w live keeps.fits at d (record one { peer = after }) mid kept room queues set) (ap to_client queues)
@@ -140,6 +142,7 @@ module _ (schemas : WorldSchemas EditFault) (w : model.World) (live : Live) (kee
         let is_kept : IsClient schemas w.room.history d (record one { peer = after }) = record {
           peer = subst (λ b. peer_of.Stands schemas (record { base = b; client = d }) after) (sym (base_alike schemas w.room.history c d alike.version alike.reached alike.connection)) stands;
           session = kept.session ∙ ap session_of (sym alike.connection);
+          clip = kept.clip ∙ sym alike.clip;
         } in
         happened schemas w (with_pushing at (after_diff diff b) w) false e live new ls lines keeps so prints
         (subst (λ p. Fits schemas (with_pushing at p w) new) (more_pushed owed diff b same)
@@ -151,7 +154,7 @@ module _ (schemas : WorldSchemas EditFault) (w : model.World) (live : Live) (kee
     stayed : (e : Event) (ls : List OutLine) → after_event schemas false w e ≡ happens ls w → queues_after schemas w (to_client live.queues) e ≡ to_client live.queues
         → peer_of.Stands schemas (held_of schemas w.room.history c) after → (lines : Vec OutLine) → lines.items ≡ ls → Answers schemas w (after_event schemas false w e) (Ok lines) mid
     stayed e ls so still stands lines prints =
-        let there = still_keeps schemas w live keeps at one less is after mid room queues set c made (record { peer = stands; session = kept.session }) in
+        let there = still_keeps schemas w live keeps at one less is after mid room queues set c made (record { peer = stands; session = kept.session; clip = kept.clip }) in
         happened schemas w w false e live mid ls lines keeps so prints there.fits (ap to_client queues ∙ sym still)
 
     back_seen : (diff : RecordOps) → back_of schemas (held_of schemas w.room.history c) diff ≡ inverse_in schemas w c diff
@@ -246,5 +249,5 @@ module _ (schemas : WorldSchemas EditFault) (w : model.World) (live : Live) (kee
       let c = it.client in
       let held = held_of schemas w.room.history c in (
         if_some _ (slice_get w.clients at) (Err NoSuchClient) c it.made ∙ if_none _ (marks.bail_diff name c.marks) (Err NoMark) (bail_none (marks.bail_diff name c.marks) (refuses schemas held it.kept.peer)),
-        still_keeps schemas w live keeps at one less is after mid room queues set c it.made (record { peer = stays schemas held it.kept.peer; session = it.kept.session }),
+        still_keeps schemas w live keeps at one less is after mid room queues set c it.made (record { peer = stays schemas held it.kept.peer; session = it.kept.session; clip = it.kept.clip }),
       )

@@ -25,6 +25,7 @@ use Rattle.sync_client.specs.Calls.{Held, asking, asks, connect_answer}
 use Rattle.sync_room.specs.Standing as room_of
 use Rattle.sync_peer.specs.Standing as peer_of
 use Rattle.sync_peer.specs.declared.peer.Peer.{Peer}
+use Rattle.clip_content.specs.View.{clip_tree}
 use Rattle.world_laws.specs.Pending.{IsIdleWork, AreIdle}
 use Rattle.world_laws.specs.Told.{base_by, replica_of}
 use Rattle.world_laws.proofs.LaterLemmas.{got_at}
@@ -110,11 +111,12 @@ module _ (schemas : WorldSchemas EditFault) (history : History) (c : Client) (of
   off_base = ap (base_by schemas history c) off
 
   -- who asks has the base that it had
-  asking_kept : (k : ℕ) (one : WorldClient) (after : Peer) → peer_of.Stands schemas (record (held_of schemas history c) { client = asking k c }) after
+  asking_kept : (k : ℕ) (one : WorldClient) (after : Peer) → option_map clip_tree one.clip ≡ c.clip → peer_of.Stands schemas (record (held_of schemas history c) { client = asking k c }) after
       → IsClient schemas history (asking k c) (record one { peer = after; session = Some k })
-  asking_kept k one after stands = record {
+  asking_kept k one after clip stands = record {
     peer = subst (λ b. peer_of.Stands schemas (record { base = b; client = asking k c }) after) off_base stands;
     session = refl;
+    clip = clip;
   }
 
 module _ (schemas : WorldSchemas EditFault) (w : model.World) (live : Live) (keeps : Keeps schemas w live) (at : ℕ) (one : WorldClient) (less : at < vec_len live.clients)
@@ -131,6 +133,7 @@ module _ (schemas : WorldSchemas EditFault) (w : model.World) (live : Live) (kee
     still_keeps schemas w live keeps at one less is after mid room queues set it.client it.made (record {
       peer = subst (λ p. peer_of.Stands schemas (held_of schemas w.room.history it.client) p) (sym same) it.kept.peer;
       session = it.kept.session;
+      clip = it.kept.clip;
     }),
   )
 
@@ -176,7 +179,7 @@ module _ (schemas : WorldSchemas EditFault) (w : model.World) (live : Live) (kee
         let request = asks versions (length w.room.sessions) c in
         let channel : Channel = record { to_room = request ∷ []; to_client = [] } in
         let kept = subst (λ n. IsClient schemas w.room.history (asking n c) (record one { peer = after; session = Some k })) next
-        (asking_kept schemas w.room.history c off k one after (stands schemas (held_of schemas w.room.history c) it.kept.peer)) in
+        (asking_kept schemas w.room.history c off k one after it.kept.clip (stands schemas (held_of schemas w.room.history c) it.kept.peer)) in
         let said_is : said ≡ request = may.1.1 ∙ ap (λ n. asks versions n c) next in
         let sent : to_room new.queues ≡ sent_by v.channels =
         ap to_room new_queues ∙ e.1.sent ∙ ap (λ q. to_room q ++ (said ∷ []) ∷ []) queues ∙ ap (λ q. q ++ (said ∷ []) ∷ []) keeps.fits.sent
@@ -211,5 +214,6 @@ module _ (schemas : WorldSchemas EditFault) (w : model.World) (live : Live) (kee
           still_keeps schemas w still alike at one less is last new refl refl (set_at was (λ s. record s { peer = last }) sets) c it.made (record {
             peer = subst (λ (d : Client). peer_of.Stands schemas (record { base = (replica_of schemas history c).base; client = d }) last) (cut_same k c off idle) based;
             session = it.kept.session;
+            clip = it.kept.clip;
           }),
         )

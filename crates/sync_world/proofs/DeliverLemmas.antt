@@ -56,6 +56,20 @@ arrived_session history k c (updates_between from to) is = is
 arrived_session history k c pong is = is
 arrived_session history k c (end reason) is = is
 
+ended_clip : (c : Client) (reason : EndReason) → (after_end reason c).clip ≡ c.clip
+ended_clip c Slow = refl
+ended_clip c ClientTooOld = refl
+ended_clip c ServerTooOld = refl
+ended_clip c InvalidRecord = refl
+ended_clip c RoomFull = refl
+
+-- what arrives leaves what was copied
+arrived_clip : (history : History) (k : ℕ) (c : Client) (notice : Notice) → (arrived history k c notice).clip ≡ c.clip
+arrived_clip history k c (snapshot_at clock) = refl
+arrived_clip history k c (updates_between from to) = refl
+arrived_clip history k c pong = refl
+arrived_clip history k c (end reason) = refl
+
 -- an answer is what a snapshot tells, after which the client pushes; after anything else it does not
 module _ (schemas : WorldSchemas EditFault) (w : model.World) (c : Client) (k : ℕ) (h : History) where
   pub answer_pushes : (notice : Notice) (hydration : Hydration) (request : List ℕ) (protocol : ℤ) (versions : Versions) (diff : RecordOps) (clock : ℤ) (readonly : Bool)
@@ -90,6 +104,7 @@ module _ (schemas : WorldSchemas EditFault) (w : model.World) (live : Live) (fit
       (record {
         peer = subst (λ held. peer_of.Stands schemas held after) (arrives schemas w.room c k said notice delivery.told delivery.expected delivery.taken) (took schemas (held_of schemas w.room.history c) kept.peer);
         session = kept.session ∙ delivery.session ∙ sym (arrived_session w.room.history k c notice delivery.session);
+        clip = kept.clip ∙ sym (arrived_clip w.room.history k c notice);
       }) room queues set
 
   -- it was connected, and has pushed
@@ -224,6 +239,7 @@ module _ (schemas : WorldSchemas EditFault) (w : model.World) (live : Live) (kee
             peer = subst (λ b. peer_of.Stands schemas (record { base = b; client = d }) after) (document_is schemas w live keeps at it.client it.made ∙ sym (ended_base schemas w.room.history it.client reason))
                 (ended schemas (held_of schemas w.room.history it.client) it.kept.peer);
             session = sym (ended_session it.client reason);
+            clip = it.kept.clip ∙ sym (ended_clip it.client reason);
           } in
           let fits = fits_idle schemas taken_off at d new (fits_client schemas taken_off popped off_fits at d (record one { peer = after; session = None }) new kept room_is queues_is set) in
           ends_in new (line.Ended at reason ∷ []) lines (ap (notice_lines at) notice) prints

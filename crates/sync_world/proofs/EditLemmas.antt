@@ -75,6 +75,7 @@ module _ (schemas : WorldSchemas EditFault) (w : model.World) (live : Live) (kee
             let kept : IsClient schemas w.room.history d (record one { peer = after }) = record {
               peer = subst (λ b. peer_of.Stands schemas (record { base = b; client = d }) after) (sym (base_alike schemas w.room.history c d refl refl refl)) marked;
               session = it.kept.session;
+              clip = it.kept.clip;
             } in
             happened schemas w (with_pushing at (push_all d) w) false (event.Edit at wanted) live new [] lines keeps (edits schemas w at c it.made wanted diff completes) prints
             (then_pushes c d it.made kept new pushes) (given ∙ ap to_client queues)
@@ -94,5 +95,5 @@ module _ (schemas : WorldSchemas EditFault) (w : model.World) (live : Live) (kee
       let held = held_of schemas w.room.history c in
       let seen = ap (λ m. (schema_of schemas c).complete m wanted) (shown_is schemas w live keeps at c it.made) in (
         edits_not schemas w at c it.made wanted fault (sym seen ∙ refused_by (completion schemas held wanted) fault (refuses schemas held it.kept.peer)),
-        still_keeps c it.made (record { peer = stays schemas held it.kept.peer; session = it.kept.session }),
+        still_keeps c it.made (record { peer = stays schemas held it.kept.peer; session = it.kept.session; clip = it.kept.clip }),
       )

@@ -98,6 +98,7 @@ module _ (schemas : WorldSchemas EditFault) (w : model.World) (live : Live) wher
           let kept : IsClient schemas w.room.history (after_cut c) (record one { peer = after; session = None }) = record {
             peer = subst (λ b. peer_of.Stands schemas (record { base = b; client = after_cut c }) after) (document_is n c it.made) (lost schemas (held_of schemas w.room.history c) it.kept.peer);
             session = refl;
+            clip = it.kept.clip;
           } in
           happened schemas w (with_client n (after_cut c) w) false (event.Cut n) live new [] lines keeps (cuts w n c it.made has.0 (sym it.kept.session ∙ has.1)) prints
           (fits_client schemas w live keeps.fits n (after_cut c) (record one { peer = after; session = None }) new kept room queues (set ∙ ap (λ k. slice_set live.clients.items k (record one { peer = after; session = None })) same))
@@ -120,6 +121,7 @@ module _ (schemas : WorldSchemas EditFault) (w : model.World) (live : Live) wher
         record {
           peer = subst (λ (r : Replica). peer_of.Stands schemas (record { base = r.base; client = c }) one.peer) (sym still.replica) kept.peer;
           session = kept.session;
+          clip = kept.clip;
         }) keeps.fits.clients
 
     -- the same world, with the messages and the room as they were

@@ -10,6 +10,7 @@ pub mod EventLemmas
 pub mod ShowLemmas
 pub mod SendingLemmas
 pub mod EditLemmas
+pub mod ClipLemmas
 pub mod PresenceLemmas
 pub mod DeliverLemmas
 pub mod ConnectLemmas

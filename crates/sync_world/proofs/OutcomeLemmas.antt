@@ -5,12 +5,15 @@ use Rattle.std.specs.Option.{option_map_or}
 use Rattle.rooms_val.specs.Data.{Data}
 use Rattle.field_ops.specs.RecordOps.{RecordOps}
 use Rattle.doc_model.specs.Marks as marks
+use Rattle.room_model.specs.Clips.{ClipTree, TargetTree}
 use Rattle.room_model.specs.Schemas.{WorldSchemas}
 use Rattle.room_model.specs.Rooms.{Session, Room, session_at, Notice, Replied, after_message, after_leave, Given, next_for, after_drain}
 use Rattle.room_model.specs.Replicas.{Client, new_client, session_of, is_open, edit, presence, Pushing, push_none, push_all, push_one, first_unsent, with_work, after_presence, after_cut, after_notice, schema_of}
-use Rattle.room_model.specs.Worlds.{Channel, World, with_client, with_channel, with_messages, with_pushing, Outcome, happens, at_client, at_session, trace_line, out_line, notice_lines, is_at_limit, on_join, on_cut, on_lose, deliver_first, on_deliver, ask, connect_if_allowed, on_connect, shown_in, inverse_in, take_edit, on_edit, on_presence, handle_first, on_handle, on_send, show_line, on_show}
+use Rattle.room_model.specs.Worlds.{Channel, World, with_client, with_channel, with_messages, with_pushing, Outcome, happens, at_client, at_session, trace_line, out_line, notice_lines, is_at_limit, on_join, on_cut, on_lose, deliver_first, on_deliver, ask, connect_if_allowed, on_connect, shown_in, inverse_in, take_edit, take_clip, on_copy, edit_pasted, on_paste, on_edit, on_presence, handle_first, on_handle, on_send, show_line, on_show}
+use Rattle.room_model.specs.declared.clip_fault.ClipFault.{ClipFault}
+use Rattle.room_model.specs.declared.clip_fault.PasteFault.{PasteFault}
 use Rattle.room_model.specs.declared.fault.ConnectFault.TheVariants.{AlreadyOpen, Refused}
-use Rattle.room_model.specs.declared.fault.StepFault.TheVariants.{NoSuchClient, NoSuchSession, NothingThere, Edit, Connect, Limit}
+use Rattle.room_model.specs.declared.fault.StepFault.TheVariants.{NoSuchClient, NoSuchSession, NothingThere, Edit, Connect, Limit, NoClip}
 use Rattle.room_model.specs.declared.limits.TheConstants.{MOST_CLIENTS, MOST_PUSHES}
 use Rattle.room_model.specs.declared.line.OutLine.TheVariants as line
 use Rattle.sync_msgs.specs.declared.client_message.ClientMessage.{ClientMessage}
@@ -82,6 +85,16 @@ module _ {F : Type 0} (schemas : WorldSchemas F) (w : World) where
 
     pub edits_not : (wanted : RecordOps) (fault : F) → (schema_of schemas c).complete (shown_in schemas w c) wanted ≡ Err fault → on_edit schemas n wanted w ≡ Err (Edit fault)
     edits_not wanted fault is = edits_so wanted (Err fault) is
+
+    pub copies : (ids : List (List ℕ)) (o : Result ClipTree ClipFault) → schemas.clips.copied (shown_in schemas w c) ids ≡ o → on_copy schemas n ids w ≡ take_clip schemas n w c o
+    copies ids o is = if_some _ (slice_get w.clients n) (Err NoSuchClient) c at ∙ ap (take_clip schemas n w c) is
+
+    pub pastes_nothing : (target : TargetTree) → c.clip ≡ None → on_paste schemas n target w ≡ Err NoClip
+    pastes_nothing target is = if_some _ (slice_get w.clients n) (Err NoSuchClient) c at ∙ if_none _ c.clip (Err NoClip) is
+
+    pub pastes : (target : TargetTree) (clip : ClipTree) (o : Result RecordOps PasteFault) → c.clip ≡ Some clip → schemas.clips.pasted clip (shown_in schemas w c) target ≡ o
+        → on_paste schemas n target w ≡ edit_pasted schemas n w o
+    pastes target clip o has is = if_some _ (slice_get w.clients n) (Err NoSuchClient) c at ∙ if_some _ c.clip (Err NoClip) clip has ∙ ap (edit_pasted schemas n w) is
 
     pub is_set : (d : Data) → (schema_of schemas c).presence_fault d ≡ None → on_presence schemas n d w ≡ happens [] (with_pushing n (after_presence d c) w)
     is_set d is = if_some _ (slice_get w.clients n) (Err NoSuchClient) c at ∙ if_none _ ((schema_of schemas c).presence_fault d) (happens [] (with_pushing n (after_presence d c) w)) is

@@ -137,12 +137,14 @@ module _ (schemas : WorldSchemas EditFault) where
       record {
         peer = subst (λ b. peer_of.Stands schemas (record { base = b; client = (push_all c).client }) after) (sym (base_alike schemas history c (push_all c).client same.version same.reached same.connection)) stands;
         session = is.session ∙ ap session_of (sym same.connection);
+        clip = is.clip ∙ sym same.clip;
       }
 
   -- a client that did nothing is kept
   pub new_kept : (history : History) (version : ℕ) (one : Peer) → peer_of.Stands schemas (record { base = []; client = new_client version }) one
-      → IsClient schemas history (new_client version) (record { peer = one; session = None })
+      → IsClient schemas history (new_client version) (record { peer = one; session = None; clip = None })
   new_kept history version one stands = record {
     peer = subst (λ b. peer_of.Stands schemas (record { base = b; client = new_client version }) one) (sym (new_base schemas history version)) stands;
     session = refl;
+    clip = refl;
   }

@@ -41,12 +41,14 @@ set_kept schemas history c one after d true kept stands =
     record {
       peer = subst (λ b. peer_of.Stands schemas (record { base = b; client = e }) after) (sym (base_alike schemas history c e refl refl refl)) stands;
       session = kept.session;
+      clip = kept.clip;
     }
 set_kept schemas history c one after d false kept stands =
     let e : Client = record c { presence = Some d } in
     record {
       peer = subst (λ b. peer_of.Stands schemas (record { base = b; client = e }) after) (sym (base_alike schemas history c e refl refl refl)) stands;
       session = kept.session;
+      clip = kept.clip;
     }
 
 none_refused : (o : Option EditFault) → done_unless o ≡ Ok tt → o ≡ None
@@ -84,5 +86,5 @@ module _ (schemas : WorldSchemas EditFault) (w : model.World) (live : Live) (kee
       let c = it.client in
       let held = held_of schemas w.room.history c in (
         is_not_set schemas w at c it.made (data_of val) fault (some_refused (refusal schemas held (data_of val)) fault (refuses schemas held it.kept.peer)),
-        still_keeps schemas w live keeps at one less is after mid room queues set c it.made (record { peer = stays schemas held it.kept.peer; session = it.kept.session }),
+        still_keeps schemas w live keeps at one less is after mid room queues set c it.made (record { peer = stays schemas held it.kept.peer; session = it.kept.session; clip = it.kept.clip }),
       )

@@ -9,7 +9,7 @@ use Rattle.room_model.specs.Worlds.{Outcome, shown_in, after_event}
 use Rattle.room_model.specs.declared.event.Event.{Event}
 use Rattle.room_model.specs.declared.event.Event.TheVariants as event
 use Rattle.room_model.specs.declared.fault.StepFault.{StepFault}
-use Rattle.room_model.specs.declared.fault.StepFault.TheVariants.{NoSuchClient, NoSuchSession, NothingThere, Edit, Connect, NoMark, Limit, OutOfMemory}
+use Rattle.room_model.specs.declared.fault.StepFault.TheVariants.{NoSuchClient, NoSuchSession, NothingThere, Edit, Connect, NoMark, Limit, Clip, NoClip, Paste, OutOfMemory}
 use Rattle.room_model.specs.declared.line.OutLine.{OutLine}
 use Rattle.side_effects.specs.declared.fault.EditFault.{EditFault}
 use Rattle.peer_schemas.specs.Clients.{AreOfTables}
@@ -37,6 +37,9 @@ steps_to schemas w outcome (Err (Edit fault)) live was sound h = (h.0, record { 
 steps_to schemas w outcome (Err (Connect fault)) live was sound h = (h.0, record { going = refl; keeps = h.1; sound = was })
 steps_to schemas w outcome (Err NoMark) live was sound h = (h.0, record { going = refl; keeps = h.1; sound = was })
 steps_to schemas w outcome (Err Limit) live was sound h = (h.0, record { going = refl; keeps = h.1; sound = was })
+steps_to schemas w outcome (Err (Clip fault)) live was sound h = (h.0, record { going = refl; keeps = h.1; sound = was })
+steps_to schemas w outcome (Err NoClip) live was sound h = (h.0, record { going = refl; keeps = h.1; sound = was })
+steps_to schemas w outcome (Err (Paste fault)) live was sound h = (h.0, record { going = refl; keeps = h.1; sound = was })
 steps_to schemas w outcome (Err OutOfMemory) live was sound h = refl
 
 -- the worlds of the code since a mark are worlds since the mark in which its client shows what is sound

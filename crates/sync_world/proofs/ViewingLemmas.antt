@@ -105,7 +105,7 @@ still_stands schemas world code n one peer less value also stands =
     let fits = stands.keeps.fits in
     let there = client_there schemas world live fits n less in
     let is = client_is schemas world live fits n there.0 one less there.1 value in
-    let set = fits_client schemas world live fits n there.0 (record one { peer = peer }) new (record { peer = also _ is.peer; session = is.session }) refl refl refl in
+    let set = fits_client schemas world live fits n there.0 (record one { peer = peer }) new (record { peer = also _ is.peer; session = is.session; clip = is.clip }) refl refl refl in
     let same : with_client n there.0 world ≡ world = λ i. record world { clients = set_again world.clients n there.0 there.1 i } in
     record {
       going = stands.going;

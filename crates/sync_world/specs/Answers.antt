@@ -5,7 +5,7 @@ use Rattle.room_model.specs.Schemas.{WorldSchemas}
 use Rattle.room_model.specs.Worlds as model
 use Rattle.room_model.specs.Worlds.{Outcome, Stepped}
 use Rattle.room_model.specs.declared.fault.StepFault.{StepFault}
-use Rattle.room_model.specs.declared.fault.StepFault.TheVariants.{NoSuchClient, NoSuchSession, NothingThere, Edit, Connect, NoMark, Limit, OutOfMemory}
+use Rattle.room_model.specs.declared.fault.StepFault.TheVariants.{NoSuchClient, NoSuchSession, NothingThere, Edit, Connect, NoMark, Limit, Clip, NoClip, Paste, OutOfMemory}
 use Rattle.room_model.specs.declared.line.OutLine.{OutLine}
 use Rattle.side_effects.specs.declared.fault.EditFault.{EditFault}
 use Rattle.sync_world.specs.Standing.{Keeps, Stands}
@@ -31,6 +31,9 @@ Faults schemas world outcome (Edit fault) code = Refuses schemas world outcome (
 Faults schemas world outcome (Connect fault) code = Refuses schemas world outcome (Connect fault) code
 Faults schemas world outcome NoMark code = Refuses schemas world outcome NoMark code
 Faults schemas world outcome Limit code = Refuses schemas world outcome Limit code
+Faults schemas world outcome (Clip fault) code = Refuses schemas world outcome (Clip fault) code
+Faults schemas world outcome NoClip code = Refuses schemas world outcome NoClip code
+Faults schemas world outcome (Paste fault) code = Refuses schemas world outcome (Paste fault) code
 Faults schemas world outcome OutOfMemory code = code.spent ≡ true
 
 -- whether an answer says that memory ran out

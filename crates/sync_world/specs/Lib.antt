@@ -4,6 +4,7 @@ pub mod Pushing
 pub mod Holding
 pub mod Keeping
 pub mod Viewing
+pub mod Clips
 pub mod Standing
 pub mod Moving
 pub mod Answers

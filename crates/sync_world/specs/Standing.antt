@@ -1,6 +1,6 @@
 -- For which worlds of the definitions a world of the code stands: it keeps each client's base in place of the history that the base
 -- folds, and messages in place of the notices that they tell.
-use Rattle.std.specs.Prelude.{◌≡◌, ℕ, false}
+use Rattle.std.specs.Prelude.{◌≡◌, ℕ, false, option_map}
 use Rattle.room_model.specs.Schemas.{WorldSchemas}
 use Rattle.room_model.specs.Histories.{History}
 use Rattle.room_model.specs.Replicas.{Client, session_of}
@@ -8,6 +8,7 @@ use Rattle.room_model.specs.Worlds as model
 use Rattle.world_laws.specs.Reachable.{ReachableWorld}
 use Rattle.world_laws.specs.Queues.{AreQueues}
 use Rattle.world_laws.specs.Restoring.{ShowsSound}
+use Rattle.clip_content.specs.View.{clip_tree}
 use Rattle.sync_room.specs.Standing as room_of
 use Rattle.side_effects.specs.declared.fault.EditFault.{EditFault}
 use Rattle.peer_schemas.specs.Clients.{AreOfTables, schemas_of}
@@ -20,10 +21,11 @@ use Rattle.sync_world.specs.declared.live.Live.{Live}
 use Rattle.sync_world.specs.declared.live.WorldClient.{WorldClient}
 use Rattle.sync_world.specs.declared.world.World.{World}
 
--- what is kept of a client: a peer that stands for it, and its session
+-- what is kept of a client: a peer that stands for it, its session, and its clip
 pub record IsClient (schemas : WorldSchemas EditFault) (history : History) (client : Client) (kept : WorldClient) : Type 0 where
   pub peer : peer_of.Stands schemas (held_of schemas history client) kept.peer
   pub session : kept.session ≡ session_of client.connection
+  pub clip : option_map clip_tree kept.clip ≡ client.clip
 
 -- a world's parts stand for those of one of the definitions, but for what is in flight to clients; also while an event happens
 pub record Fits (schemas : WorldSchemas EditFault) (world : model.World) (live : Live) : Type 0 where

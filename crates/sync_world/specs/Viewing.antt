@@ -49,6 +49,7 @@ changed_by (event.Edit client diff) = Some client
 changed_by (event.Undo client) = Some client
 changed_by (event.Redo client) = Some client
 changed_by (event.Bail client name) = Some client
+changed_by (event.Paste client dx dy parent prefix) = Some client
 changed_by (event.Deliver client) = Some client
 changed_by other = None
 

@@ -5,7 +5,7 @@ ghost use Rattle.sync_world.specs.Viewing.{changed_by};
 use room_model::Event;
 
 /// The client whose document an event may change, if there is one: that of an edit, an undo, a redo, a
-/// bail or a delivery.
+/// bail, a paste or a delivery.
 pub fn changed_by(event: &Event) -> Option<u64>
     ensures { result ≡ changed_by event.now }
 {
@@ -14,6 +14,7 @@ pub fn changed_by(event: &Event) -> Option<u64>
         Event::Undo { client } => Some(*client),
         Event::Redo { client } => Some(*client),
         Event::Bail { client, .. } => Some(*client),
+        Event::Paste { client, .. } => Some(*client),
         Event::Deliver { client } => Some(*client),
         _ => None,
     }

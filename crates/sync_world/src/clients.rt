@@ -43,6 +43,7 @@ impl Live {
         let client = WorldClient {
             peer,
             session: None,
+            clip: None,
         };
         self.clients.push(client)?;
         Ok(Ok(Vec::new(alloc)))

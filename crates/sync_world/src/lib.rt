@@ -5,11 +5,12 @@
 //! (`specs/Standing.antt`): the room for its room, each peer for its client with the base that it
 //! has of the room, and the messages in flight for the notices that they tell. So what holds of
 //! every world that can be reached (`world_laws`) holds of what the code shows. The crate stands on
-//! `sync_room`, `sync_peer` and `world_queues`.
+//! `sync_room`, `sync_peer`, `clip_content` and `world_queues`.
 #![tactic(auto)]
 
 mod changes;
 mod clients;
+mod clips;
 pub mod laws;
 mod live;
 mod marks;

@@ -14,6 +14,7 @@ ghost use Rattle.sync_world.specs.Answers.{Answers};
 ghost use Rattle.sync_world.specs.Viewing.{stores_in, KeepsStores, IsSoundAt};
 ghost use Rattle.sync_peer.specs.Viewing.{store_of};
 
+use clip_content::{Clip, Target};
 use room_model::fault::StepFault;
 use room_model::{Event, OutLine};
 use rooms_val::{Mem, Steps};
@@ -46,6 +47,8 @@ pub(crate) struct WorldClient {
     pub(crate) peer: Peer,
     // The session of its last connect, until it is cut or its end is delivered.
     pub(crate) session: Option<u64>,
+    // What it copied last, if it copied anything.
+    pub(crate) clip: Option<Clip>,
 }
 
 impl Live {
@@ -73,6 +76,22 @@ impl Live {
             Event::Undo { client } => self.undo(alloc, client, steps),
             Event::Redo { client } => self.redo(alloc, client, steps),
             Event::Bail { client, name } => self.bail(alloc, client, &name, steps),
+            Event::Copy { client, ids } => self.copy(alloc, client, ids.as_slice()),
+            Event::Paste {
+                client,
+                dx,
+                dy,
+                parent,
+                prefix,
+            } => {
+                let target = Target {
+                    prefix: prefix.as_str(),
+                    parent: parent.as_str(),
+                    dx,
+                    dy,
+                };
+                self.paste(alloc, client, &target, steps)
+            }
             Event::Handle { session } => self.handle(alloc, trace, session, steps),
             Event::Send { session } => self.send(alloc, trace, session, steps),
             Event::Deliver { client } => self.deliver(alloc, client, steps),

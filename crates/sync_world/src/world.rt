@@ -43,7 +43,7 @@ pub struct World {
 }
 
 impl World {
-    /// A world whose room has the schema of a version, 1 to 3; nobody entered the room, and there
+    /// A world whose room has the schema of a version of the tables; nobody entered the room, and there
     /// is no client. It costs the schema.
     pub fn new(alloc: Global, version: u32) -> Mem<World>
         requires { IsVersion version }
@@ -66,8 +66,8 @@ impl World {
     }
 
     /// Lets an event happen, and answers the lines that it prints; with `trace` also those of the
-    /// messages that it moves. A client's version is 1 to 3. It costs what the room and the client
-    /// take for it, however many events came before; `Show` and `End` cost the document.
+    /// messages that it moves. A client's version is one of the tables. It costs what the room and the client
+    /// take for it, however many events came before; `Show`, `End`, `Copy` and `Paste` cost the document.
     ///
     /// A bail to a mark makes the client show again what it showed when it made the mark, if since
     /// then it had edits, but no delivery but its end, undo, redo or bail, and made no mark of the
@@ -82,8 +82,8 @@ impl World {
     ///
     /// # Errors
     ///
-    /// `NoSuchClient`, `NoSuchSession`, `NothingThere`, `Edit`, `Connect`, `NoMark` and `Limit` exactly if
-    /// the definitions refuse the event so; then the world is as before. After `OutOfMemory` every
+    /// `NoSuchClient`, `NoSuchSession`, `NothingThere`, `Edit`, `Connect`, `NoMark`, `Limit`, `Clip`, `NoClip` and
+    /// `Paste` exactly if the definitions refuse the event so; then the world is as before. After `OutOfMemory` every
     /// further step answers it.
     pub fn step<L: Ledger>(
         &mut self,

@@ -1,5 +1,7 @@
 //! The playing of scripts.
 ghost use Rattle.std.specs.Prelude.{◌≡◌, ◌<◌, true};
+ghost use Rattle.rooms_val.specs.Json.{greatest_whole};
+ghost use Rattle.shape_tree.specs.Boxes.{IsWithin};
 ghost use Rattle.sync_world.specs.Playing.{IsPlayed};
 ghost use Rattle.world_views.specs.Standing.{IsPlayable};
 
@@ -9,10 +11,12 @@ use case_tables::{cells, printed, rows};
 use fault_texts::step_fault_text;
 use rec_format::{Event, PrintedLine, RecordedEvent, print_line, read_header, read_line};
 use rooms_val::Steps;
+use rooms_val::limits::GREATEST_WHOLE;
 use std::alloc::Global;
 use std::marker::Brand;
 use std::sync::ledger::{Blank, Ledger};
 use std::test::Fail;
+use tl_tables::NEWEST_VERSION;
 use world_views::ViewedWorld;
 
 /// Plays scripts, one after the other, in the new world of a header. `None` if each answer is the one that stands there, else
@@ -125,9 +129,17 @@ fn is_played(event: &Event) -> bool
     ensures { result ≡ true → IsPlayed event.now }
 {
     match event {
-        Event::Client { version } => 1 <= *version && *version <= 3,
+        Event::Client { version } => 1 <= *version && *version <= NEWEST_VERSION,
+        Event::Paste { dx, dy, .. } => is_move(*dx) && is_move(*dy),
         _ => true,
     }
+}
+
+// Whether a number is at most 2^53 - 1 on either side of 0.
+fn is_move(number: i64) -> bool
+    ensures { result ≡ true → IsWithin greatest_whole number }
+{
+    -GREATEST_WHOLE <= number && number <= GREATEST_WHOLE
 }
 
 fn stepped<L: Ledger>(

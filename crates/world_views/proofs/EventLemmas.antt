@@ -10,7 +10,7 @@ use Rattle.room_model.specs.Worlds.{after_event, new_world}
 use Rattle.room_model.specs.declared.event.Event.{Event}
 use Rattle.room_model.specs.declared.event.Event.TheVariants as event
 use Rattle.room_model.specs.declared.fault.StepFault.{StepFault}
-use Rattle.room_model.specs.declared.fault.StepFault.TheVariants.{NoSuchClient, NoSuchSession, NothingThere, Edit, Connect, NoMark, Limit, OutOfMemory}
+use Rattle.room_model.specs.declared.fault.StepFault.TheVariants.{NoSuchClient, NoSuchSession, NothingThere, Edit, Connect, NoMark, Limit, Clip, NoClip, Paste, OutOfMemory}
 use Rattle.room_model.specs.declared.limits.TheConstants.{MOST_CLIENTS}
 use Rattle.rec_format.specs.declared.printed.PrintedLine.{PrintedLine}
 use Rattle.side_effects.specs.declared.fault.EditFault.{EditFault}
@@ -110,6 +110,8 @@ module _ (schemas : WorldSchemas EditFault) where
   event_leaves (event.Undo client) trace viewed made old new keeps is stands stores = after_one viewed made.world old new keeps stands client stores
   event_leaves (event.Redo client) trace viewed made old new keeps is stands stores = after_one viewed made.world old new keeps stands client stores
   event_leaves (event.Bail client name) trace viewed made old new keeps is stands stores = after_one viewed made.world old new keeps stands client stores
+  event_leaves (event.Copy client ids) trace viewed made old new keeps is stands stores = after_same viewed made.world old new keeps stands stores
+  event_leaves (event.Paste client dx dy parent prefix) trace viewed made old new keeps is stands stores = after_one viewed made.world old new keeps stands client stores
   event_leaves (event.Handle session) trace viewed made old new keeps is stands stores = after_same viewed made.world old new keeps stands stores
   event_leaves (event.Send session) trace viewed made old new keeps is stands stores = after_same viewed made.world old new keeps stands stores
   event_leaves (event.Deliver client) trace viewed made old new keeps is stands stores = after_one viewed made.world old new keeps stands client stores
@@ -128,6 +130,9 @@ module _ (schemas : WorldSchemas EditFault) where
   refusal_of world outcome (Connect fault) code other refuses = refuses
   refusal_of world outcome NoMark code other refuses = refuses
   refusal_of world outcome Limit code other refuses = refuses
+  refusal_of world outcome (Clip fault) code other refuses = refuses
+  refusal_of world outcome NoClip code other refuses = refuses
+  refusal_of world outcome (Paste fault) code other refuses = refuses
   refusal_of world outcome OutOfMemory code other refuses = absurd (other refl)
 
   -- where there is no client nothing is watched

@@ -18,15 +18,15 @@ ghost use Rattle.world_views.specs.Standing.{Keeps, MayTell, After, Stands, Step
 
 use crate::lines::{add_told, one_line, printed};
 use live_views::WatchFault;
-use rec_format::{IdList, PrintedLine, RecordedEvent};
-use room_model::Event;
+use rec_format::{PrintedLine, RecordedEvent};
 use room_model::fault::StepFault;
+use room_model::{Event, IdList};
 use rooms_val::{Mem, OutOfMemory, Steps};
 use shape_tree::{Query, View};
 use side_effects::EditFault;
 use std::alloc::Global;
 use std::sync::ledger::Ledger;
-use sync_world::World;
+use sync_world::{World, changed_by};
 
 /// The lines that an event prints, or why it can't happen.
 type Answer = Result<Vec<PrintedLine>, StepFault<EditFault>>;
@@ -41,7 +41,7 @@ pub struct ViewedWorld {
 }
 
 impl ViewedWorld {
-    /// A world whose room has the schema of a version, 1 to 3; nobody entered the room, and there
+    /// A world whose room has the schema of a version of the tables; nobody entered the room, and there
     /// is no client. It costs the schema.
     pub fn new(alloc: Global, version: u32) -> Mem<ViewedWorld>
         requires { IsVersion version }
@@ -56,7 +56,7 @@ impl ViewedWorld {
 
     /// Lets an event of a recording happen, and answers the lines that it prints: its own, with
     /// `trace` also those of the messages that it moves, and then what each client has to tell, by
-    /// client and by watch. A client's version is 1 to 3. It costs what the event costs in the
+    /// client and by watch. A client's version is one of the tables. It costs what the event costs in the
     /// world, and a look at each watch of the one client whose document or watches it may change; a
     /// query costs a walk over the ids of what its client shows.
     ///
@@ -241,20 +241,6 @@ impl ViewedWorld {
         }
         let told = self.world.told(alloc, client, steps)?;
         add_told(client, lines, told)
-    }
-}
-
-// The client whose document an event may change.
-fn changed_by(event: &Event) -> Option<u64>
-    ensures { result ≡ changed_by event.now }
-{
-    match event {
-        Event::Edit { client, .. } => Some(*client),
-        Event::Undo { client } => Some(*client),
-        Event::Redo { client } => Some(*client),
-        Event::Bail { client, .. } => Some(*client),
-        Event::Deliver { client } => Some(*client),
-        _ => None,
     }
 }
 

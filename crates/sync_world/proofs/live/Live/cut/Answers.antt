@@ -18,5 +18,5 @@ returns-clause-step c schemas world keeps =
     c.index_mut-client.ensures.value (ap (λ (k : WorldClient). is_none k.session) one ∙ some) c.lost.new.self c.lost.ensures.stands c.new.result c.new.ensures.items _ refl refl refl
 
 pub returns-clause-stores : goal.returns-clause-stores
-returns-clause-stores c = same_stores c.args.self.now c.in-Some.at c.index_mut-client.result.now (record { peer = c.lost.new.self; session = None })
+returns-clause-stores c = same_stores c.args.self.now c.in-Some.at c.index_mut-client.result.now (record c.index_mut-client.result.now { peer = c.lost.new.self; session = None })
     c.in-Some.ensures.found.1 c.index_mut-client.ensures.value c.lost.ensures.store

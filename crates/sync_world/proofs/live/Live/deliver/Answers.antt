@@ -48,6 +48,6 @@ returns-in_ok-one_line-in-Some-End-clause-step g c = λ schemas world keeps.
 pub returns-in_ok-one_line-in-Some-End-clause-stores : goal.returns-in_ok-one_line-in-Some-End-clause-stores
 returns-in_ok-one_line-in-Some-End-clause-stores g c =
     subst (ChangesOne c.args.number (stores_in c.args.self.now))
-    (sym (same_stores c.args.self.now c.in-Some.at c.index_mut-client.result.now (record { peer = c.ended.new.self; session = None })
+    (sym (same_stores c.args.self.now c.in-Some.at c.index_mut-client.result.now (record c.index_mut-client.result.now { peer = c.ended.new.self; session = None })
     c.in-Some.ensures.found.1 c.index_mut-client.ensures.value c.ended.ensures.store))
     (stays_one c.args.number (stores_in c.args.self.now))
