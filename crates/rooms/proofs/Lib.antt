@@ -8,3 +8,10 @@ pub mod CaughtUpLemmas
 pub mod MadeLemmas
 pub mod ReadyLemmas
 pub mod OneTextLemmas
+pub mod DecideLemmas
+pub mod VecLemmas
+pub mod AskedLemmas
+pub mod SchemaLemmas
+pub mod FaultTextLemmas
+pub mod LineLemmas
+pub mod EveryTextLemmas

@@ -36,6 +36,7 @@ if_ok (Err e) P Q said follows = tt
 -- a proper event can be given to a world
 pub playable : (e : RecordedEvent) → IsProperRecorded e → IsPlayable e
 playable (recorded.World (event.Client version)) proper = proper
+playable (recorded.World (event.Paste client dx dy parent prefix)) proper = (proper.0, proper.1)
 playable e proper = tt
 
 module _ (trace : Bool) (schemas : WorldSchemas EditFault) (viewed : Viewed) (e : RecordedEvent) (code : ViewedWorld) where

@@ -8,3 +8,9 @@ pub fn recordings_have_one_text()
     ensures { (trace : Bool) (recording : List ℕ) (v w : Written)
         → Replays trace recording v → Replays trace recording w → v ≡ w }
 {}
+
+/// Every recording writes a text, whatever its bytes are: what becomes of a line can be told of
+/// each line.
+pub fn recordings_have_a_text()
+    ensures { (trace : Bool) (recording : List ℕ) → (w : Written) × Replays trace recording w }
+{}

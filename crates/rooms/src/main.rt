@@ -9,6 +9,8 @@
 //! `socket_link` (`serving`).
 #![tactic(auto)]
 
+#[cfg(test)]
+mod boards;
 mod job;
 mod laws;
 mod make;

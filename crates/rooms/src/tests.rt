@@ -25,6 +25,7 @@ const REPLAYS: &str = r#"
 H; C; SHOW; END | NEW; ENDED | 0
 ;   ; H; ; C; SHOW; END; not looked at | NEW; ENDED | 0
 H; C; OPEN; SHOW; PUT; SHOW; HANDLE; SEND; DELIVER; SHOW; {"do":"end"} | {"clock":0,"doc":{},"others":{},"owed":0,"show":0}; {"clock":0,"doc":DOC,"others":{},"owed":1,"show":0}; {"clock":1,"doc":DOC,"others":{},"owed":0,"show":0}; {"clock":1,"doc":DOC,"end":true,"presence":{}} | 0
+BASE; {"client":0,"diff":{"shape:a":["patch",{"x":["put",5]}]},"do":"edit"}; {"client":1,"diff":{"shape:a":["patch",{"x":["put",7]}]},"do":"edit"}; SHOW; SHOW1; HANDLE; SEND1; DELIVER1; SHOW1; HANDLE1; SEND; DELIVER; SEND1; DELIVER1; SHOW; SHOW1; END | {"clock":1,"doc":{"page:p":PAGE,"shape:a":GEO100,SIDE5,"y":0}},"others":{},"owed":1,"show":0}; {"clock":1,"doc":{"page:p":PAGE,"shape:a":GEO100,SIDE7,"y":0}},"others":{},"owed":1,"show":1}; {"clock":2,"doc":{"page:p":PAGE,"shape:a":GEO100,SIDE7,"y":0}},"others":{},"owed":1,"show":1}; {"clock":3,"doc":{"page:p":PAGE,"shape:a":GEO100,SIDE7,"y":0}},"others":{},"owed":0,"show":0}; {"clock":3,"doc":{"page:p":PAGE,"shape:a":GEO100,SIDE7,"y":0}},"others":{},"owed":0,"show":1}; {"clock":3,"doc":{"page:p":PAGE,"shape:a":GEO100,SIDE7,"y":0}},"end":true,"presence":{}} | 0
 H; C; SHOW; {"client":1.5,"do":"show"} | NEW; {"at":4,"fault":"NotWhole"} | 3
 H; {"client":9007199254740992,"do":"show"} | {"at":2,"fault":"OutOfRange"} | 3
 H; [[[[[[[[[[[[[[[[[[[[[[[[[[[[[[[[[[[[[[[[[[[[[[[[[[[[[[[[[[[[[[[[[]]]]]]]]]]]]]]]]]]]]]]]]]]]]]]]]]]]]]]]]]]]]]]]]]]]]]]]]]]]]]]]]] | {"at":2,"fault":"TooDeep"} | 3
@@ -41,7 +42,7 @@ H; C; CONNECT; CONNECT | {"at":4,"fault":"AlreadyOpen"} | 3
 H;  | {"at":3,"fault":"Unended"} | 3
  | {"at":1,"fault":"Unended"} | 3
 {} | {"at":1,"fault":"NoHeader"} | 3
-{"recording":1,"version":4} | {"at":1,"fault":"NoHeader"} | 3
+{"recording":1,"version":6} | {"at":1,"fault":"NoHeader"} | 3
 H; C; {"client":0,"diff":{"camera:c":["put",{}]},"do":"edit"} | {"at":3,"fault":"WrongScope camera:c"} | 3
 H; C; {"client":0,"diff":{"page:q":["remove"]},"do":"edit"} | {"at":3,"fault":"NoRecord page:q"} | 3
 H; C; {"client":0,"diff":{"page:q":["put",{}]},"do":"edit"} | {"at":3,"fault":"Invalid page:q BadId"} | 3
@@ -50,15 +51,42 @@ H; C; {"client":0,"do":"presence","record":{}} | {"at":3,"fault":"WrongScope -"}
 
 // The same of `replay --trace`.
 const TRACES: &str = r#"
-H; C; OPEN; PUT; HANDLE; SEND; LOSE; END | {"from":0,"message":{"connectRequestId":"0","lastServerClock":-1,"protocolVersion":1,"schema":SCHEMA,"type":"connect"}}; {"message":{"connectRequestId":"0","diff":{},"hydrationType":"wipe_all","isReadonly":false,"protocolVersion":1,"schema":SCHEMA,"serverClock":0,"type":"connect"},"to":0}; {"from":0,"message":{"clientClock":1,"diff":{"page:p":["put",PAGE]},"type":"push"}}; {"message":{"data":[{"action":"commit","clientClock":1,"serverClock":1,"type":"push_result"}],"type":"data"},"to":0}; {"clock":1,"doc":DOC,"end":true,"presence":{}} | 0
+H; C; OPEN; PUT; HANDLE; SEND; LOSE; END | ASK; ANSWER; {"from":0,"message":{"clientClock":1,"diff":{"page:p":["put",PAGE]},"type":"push"}}; COMMIT; {"clock":1,"doc":DOC,"end":true,"presence":{}} | 0
+BASE; {"client":0,"diff":{"shape:a":["put",GEO50,SIDE3,"y":0}]},"do":"edit"}; HANDLE; SEND1; END | ASK; ANSWER; ASK1; ANSWER1; {"from":0,"message":{"clientClock":1,"diff":{"page:p":["put",PAGE],"shape:a":["put",GEO100,SIDE0,"y":0}]},"type":"push"}}; COMMIT; {"message":{"data":[{"diff":{"page:p":["put",PAGE],"shape:a":["put",GEO100,SIDE0,"y":0}]},"serverClock":1,"type":"patch"}],"type":"data"},"to":1}; {"from":0,"message":{"clientClock":2,"diff":{"shape:a":["put",GEO50,SIDE3,"y":0}]},"type":"push"}}; {"message":{"data":[{"diff":{"shape:a":["put",GEO50,SIDE3,"y":0}]},"serverClock":2,"type":"patch"}],"type":"data"},"to":1}; {"clock":2,"doc":{"page:p":PAGE,"shape:a":GEO50,SIDE3,"y":0}},"end":true,"presence":{}} | 0
+{"recording":1,"version":4}; {"do":"client","version":4}; C; OPEN; {"client":1,"do":"connect","readonly":false}; {"do":"handle","session":1}; {"do":"send","session":1}; {"client":1,"do":"deliver"}; {"client":0,"diff":{"asset:i":["put",{"id":"asset:i","meta":{},"props":{"dims":{"h":20,"w":30},"mimeType":null,"name":"i","src":null},"type":"image","typeName":"asset"}]},"do":"edit"}; HANDLE; SEND; DELIVER; {"do":"send","session":1}; {"client":1,"do":"deliver"}; {"client":1,"do":"show"}; {"client":1,"diff":{"asset:i":["patch",{"props":["patch",{"w":["put",40]}]}]},"do":"edit"}; {"do":"handle","session":1}; {"do":"send","session":1}; END | {"from":0,"message":{"connectRequestId":"0","lastServerClock":-1,"protocolVersion":2,"schema":{"schemaVersion":2,"sequences":{"rooms.asset":1,"rooms.base":1,"rooms.binding":1,"rooms.shape":2}},"type":"connect"}}; {"message":{"connectRequestId":"0","diff":{},"hydrationType":"wipe_all","isReadonly":false,"protocolVersion":2,"schema":{"schemaVersion":2,"sequences":{"rooms.asset":1,"rooms.base":1,"rooms.binding":1,"rooms.shape":2}},"serverClock":0,"type":"connect"},"to":0}; {"from":1,"message":{"connectRequestId":"1","lastServerClock":-1,"protocolVersion":2,"schema":SCHEMA,"type":"connect"}}; {"message":{"connectRequestId":"1","diff":{},"hydrationType":"wipe_all","isReadonly":false,"protocolVersion":2,"schema":{"schemaVersion":2,"sequences":{"rooms.asset":1,"rooms.base":1,"rooms.binding":1,"rooms.shape":2}},"serverClock":0,"type":"connect"},"to":1}; {"from":0,"message":{"clientClock":1,"diff":{"asset:i":["put",{"id":"asset:i","meta":{},"props":{"dims":{"h":20,"w":30},"mimeType":null,"name":"i","src":null},"type":"image","typeName":"asset"}]},"type":"push"}}; {"message":{"data":[{"action":"commit","clientClock":1,"serverClock":1,"type":"push_result"}],"type":"data"},"to":0}; {"message":{"data":[{"diff":{"asset:i":["put",{"id":"asset:i","meta":{},"props":{"h":20,"mimeType":null,"name":"i","src":null,"w":30},"type":"image","typeName":"asset"}]},"serverClock":1,"type":"patch"}],"type":"data"},"to":1}; {"clock":1,"doc":{"asset:i":{"id":"asset:i","meta":{},"props":{"h":20,"mimeType":null,"name":"i","src":null,"w":30},"type":"image","typeName":"asset"}},"others":{},"owed":0,"show":1}; {"from":1,"message":{"clientClock":1,"diff":{"asset:i":["patch",{"props":["patch",{"w":["put",40]}]}]},"type":"push"}}; {"message":{"data":[{"action":{"rebaseWithDiff":{"asset:i":["put",{"id":"asset:i","meta":{},"props":{"h":20,"mimeType":null,"name":"i","src":null,"w":40},"type":"image","typeName":"asset"}]}},"clientClock":1,"serverClock":2,"type":"push_result"}],"type":"data"},"to":1}; {"clock":2,"doc":{"asset:i":{"id":"asset:i","meta":{},"props":{"dims":{"h":20,"w":40},"mimeType":null,"name":"i","src":null},"type":"image","typeName":"asset"}},"end":true,"presence":{}} | 0
 "#;
 
 // What a server of a room writes whose worker has no link.
 const SERVED: &str =
     r#"{"ended":0,"faults":0,"links":0,"memory":0,"worker":0}; {"clock":0,"doc":{},"presence":{},"room":0}"#;
 
+// Two connected clients, of which the first put a page and a shape, and was answered; the second was told.
+const BASE: &str =
+    r#"H; C; C; OPEN; OPEN1; {"client":0,"diff":{"page:p":["put",PAGE],"shape:a":["put",GEO100,SIDE0,"y":0}]},"do":"edit"}; HANDLE; SEND; DELIVER; SEND1; DELIVER1"#;
+
+// The texts of names that stand in lines: a document and its page, a shape up to its opacity and from there up to its x, and a schema.
+const PARTS: [(&str, &str); 5] = [
+    ("DOC", r#"{"page:p":PAGE}"#),
+    (
+        "PAGE",
+        r#"{"id":"page:p","index":"a0","meta":{},"name":"P","typeName":"page"}"#,
+    ),
+    (
+        "GEO",
+        r#"{"id":"shape:a","index":"a0","isLocked":false,"meta":{},"opacity":"#,
+    ),
+    (
+        "SIDE",
+        r#""parentId":"page:p","props":{"color":"black","dash":"draw","fill":"none","geo":"rectangle","h":10,"size":"m","text":"","w":10},"rotation":0,"type":"geo","typeName":"shape","x":"#,
+    ),
+    (
+        "SCHEMA",
+        r#"{"schemaVersion":2,"sequences":{"rooms.base":1,"rooms.binding":1,"rooms.shape":2}}"#,
+    ),
+];
+
 // A line by its short name, or the line itself.
-fn line(name: &str) -> &str {
+pub(crate) fn line(name: &str) -> &str {
     match name {
         "H" => r#"{"recording":1,"version":3}"#,
         "C" => r#"{"do":"client","version":3}"#,
@@ -70,6 +98,22 @@ fn line(name: &str) -> &str {
         "DELIVER" => r#"{"client":0,"do":"deliver"}"#,
         "LOSE" => r#"{"do":"lose","session":0}"#,
         "PUT" => r#"{"client":0,"diff":{"page:p":["put",PAGE]},"do":"edit"}"#,
+        "CONNECT1" => r#"{"client":1,"do":"connect","readonly":false}"#,
+        "HANDLE1" => r#"{"do":"handle","session":1}"#,
+        "SEND1" => r#"{"do":"send","session":1}"#,
+        "DELIVER1" => r#"{"client":1,"do":"deliver"}"#,
+        "SHOW1" => r#"{"client":1,"do":"show"}"#,
+        "ASK" =>
+            r#"{"from":0,"message":{"connectRequestId":"0","lastServerClock":-1,"protocolVersion":2,"schema":SCHEMA,"type":"connect"}}"#,
+        "ASK1" =>
+            r#"{"from":1,"message":{"connectRequestId":"1","lastServerClock":-1,"protocolVersion":2,"schema":SCHEMA,"type":"connect"}}"#,
+        "ANSWER" =>
+            r#"{"message":{"connectRequestId":"0","diff":{},"hydrationType":"wipe_all","isReadonly":false,"protocolVersion":2,"schema":SCHEMA,"serverClock":0,"type":"connect"},"to":0}"#,
+        "ANSWER1" =>
+            r#"{"message":{"connectRequestId":"1","diff":{},"hydrationType":"wipe_all","isReadonly":false,"protocolVersion":2,"schema":SCHEMA,"serverClock":0,"type":"connect"},"to":1}"#,
+        "COMMIT" =>
+            r#"{"message":{"data":[{"action":"commit","clientClock":1,"serverClock":1,"type":"push_result"}],"type":"data"},"to":0}"#,
+        "QUERY" => r#"{"client":0,"do":"query","type":"shape","where":["eq","type","draw"]}"#,
         "COUNT" => r#"{"client":0,"do":"watch","view":{"count":"page:p"}}"#,
         // A page with a frame at x 10, and a shape in it that begins 200 behind the frame's left edge.
         "FRAMED" =>
@@ -81,27 +125,25 @@ fn line(name: &str) -> &str {
 }
 
 // Lines by their short names, each with a newline.
-fn lines(alloc: Global, names: &str) -> Result<String, Fail> {
+pub(crate) fn lines(alloc: Global, names: &str) -> Result<String, Fail> {
     let mut text = String::new(alloc);
     if names.is_empty() {
         return Ok(text);
     }
-    let names = names.replace(alloc, "OPEN", "CONNECT; HANDLE; SEND; DELIVER")?;
+    let names = names.replace(alloc, "BASE", BASE)?;
+    let names = names
+        .as_str()
+        .replace(alloc, "OPEN1", "CONNECT1; HANDLE1; SEND1; DELIVER1")?;
+    let names = names
+        .as_str()
+        .replace(alloc, "OPEN", "CONNECT; HANDLE; SEND; DELIVER")?;
     for name in names.as_str().split("; ") {
         text.push_str(line(name))?;
         text.push('\n')?;
     }
-    let text = text.replace(alloc, "DOC", r#"{"page:p":PAGE}"#)?;
-    let text = text.as_str().replace(
-        alloc,
-        "PAGE",
-        r#"{"id":"page:p","index":"a0","meta":{},"name":"P","typeName":"page"}"#,
-    )?;
-    let text = text.as_str().replace(
-        alloc,
-        "SCHEMA",
-        r#"{"schemaVersion":2,"sequences":{"rooms.base":1,"rooms.binding":1,"rooms.shape":2}}"#,
-    )?;
+    for (name, part) in PARTS {
+        text = text.as_str().replace(alloc, name, part)?;
+    }
     Ok(text)
 }
 
@@ -154,7 +196,7 @@ where
 }
 
 // The same without a worker.
-fn run_words<R: Threads + Wait + Sync, S: Source, K: Sink>(
+pub(crate) fn run_words<R: Threads + Wait + Sync, S: Source, K: Sink>(
     rt: &R,
     alloc: Global,
     words: &str,
@@ -167,7 +209,7 @@ fn run_words<R: Threads + Wait + Sync, S: Source, K: Sink>(
 
 // Replays a recording that comes and goes so many bytes at a time, and asserts what it writes and
 // the status.
-fn replays<R: Abort + Threads + Wait + Sync>(
+pub(crate) fn replays<R: Abort + Threads + Wait + Sync>(
     rt: &R,
     alloc: Global,
     words: &str,
@@ -264,7 +306,7 @@ fn refuses_a_line_that_is_too_long(rt: HostRuntime) -> Result<(), Fail> {
 }
 
 // The n-th of the keys that come one behind the other, from 0: `a0` to `az`, then `b00` on.
-fn nth_key(alloc: Global, n: usize) -> Result<String, Fail> {
+pub(crate) fn nth_key(alloc: Global, n: usize) -> Result<String, Fail> {
     let mut key = String::from_str(alloc, if n < 62 { "a" } else { "b" })?;
     if 62 <= n {
         key.push(digit((n - 62) / 62))?;
@@ -283,13 +325,13 @@ fn digit(value: usize) -> char {
         .unwrap_or('0')
 }
 
-// The id of the n-th of 100 shapes.
-fn nth_id(alloc: Global, n: usize) -> Result<String, Fail> {
-    Ok(format!(in alloc; "shape:g{}{}", n / 10, n % 10)?)
+// The id of the n-th of 1,000 shapes.
+pub(crate) fn nth_id(alloc: Global, n: usize) -> Result<String, Fail> {
+    Ok(format!(in alloc; "shape:s{}{}{}", n / 100, n / 10 % 10, n % 10)?)
 }
 
-// The n-th of 100 geo shapes, with this x, and with this text of its index, which may be empty.
-fn nth_shape(alloc: Global, n: usize, index: &str, x: u32) -> Result<String, Fail> {
+// The n-th of 1,000 geo shapes, with this x, and with this text of its index, which may be empty.
+pub(crate) fn nth_shape(alloc: Global, n: usize, index: &str, x: u32) -> Result<String, Fail> {
     let id = nth_id(alloc, n)?;
     Ok(format!(in alloc;
         r#"{{"id":"{}",{index}"isLocked":false,"meta":{{}},"opacity":100,"parentId":"page:p","props":{{"color":"black","dash":"draw","fill":"none","geo":"rectangle","h":10,"size":"m","text":"","w":10}},"rotation":0,"type":"geo","typeName":"shape","x":{x},"y":0}}"#,
@@ -320,7 +362,7 @@ fn many_moves(alloc: Global, moves: u32) -> Result<String, Fail> {
     text.push_str(sync.as_str())?;
     for x in 1..=moves {
         text.push_str(format!(in alloc;
-            "{{\"client\":0,\"diff\":{{\"shape:g00\":[\"patch\",{{\"x\":[\"put\",{x}]}}]}},\"do\":\"edit\"}}\n"
+            "{{\"client\":0,\"diff\":{{\"shape:s000\":[\"patch\",{{\"x\":[\"put\",{x}]}}]}},\"do\":\"edit\"}}\n"
         )?.as_str())?;
         text.push_str(sync.as_str())?;
     }
