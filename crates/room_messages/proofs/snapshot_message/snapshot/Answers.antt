@@ -6,6 +6,7 @@ use Rattle.schema_core.specs.SchemaOf.{schema_tree}
 use Rattle.sync_msgs.specs.declared.server_message.ServerMessage.TheVariants.{Connect}
 use Rattle.room_model.specs.Histories.{start_of}
 use Rattle.room_model.specs.Messages.{known_clock}
+use Rattle.room_model.specs.declared.limits.TheConstants.{PROTOCOL}
 use Rattle.room_messages.proofs.SnapshotLemmas.{from_start}
 use Rattle.room_messages.proofs.snapshot_message.snapshot.Goals as goal
 
@@ -23,4 +24,4 @@ returns-clause-message g c = λ first history keeps are.
     let hydration = c.hydration.ensures known is in
     let diff = c.in_ok-diff.ensures.diff first history known keeps are is (from_start c.args.request.reached start (length history)) in
     let versions = c.in_ok-serialized.ensures ∙ ap newest_versions c.sequences.ensures ∙ ap (λ s. newest_versions (schema_tree s).sequences) c.schema.ensures.schema in
-    λ i. Connect (hydration i) (c.in_ok-copy.ensures i) (pos 1) (versions i) (diff i) (clock i) c.args.member.readonly
+    λ i. Connect (hydration i) (c.in_ok-copy.ensures i) PROTOCOL (versions i) (diff i) (clock i) c.args.member.readonly
