@@ -34,6 +34,14 @@ const GEO_1: &str =
 const DRAWING: &str =
     r#"{"id":"shape:@","index":"@","isLocked":false,"meta":{},"opacity":100,"parentId":"page:p","props":{"color":"black","isClosed":false,"points":[{"x":0,"y":0}],"size":"m"},"rotation":0,"type":"draw","typeName":"shape","x":0,"y":0}"#;
 
+// A text shape, of which `@` stands for its name, its index and its text.
+const TEXT: &str =
+    r#"{"id":"shape:@","index":"@","isLocked":false,"meta":{},"opacity":100,"parentId":"page:p","props":{"autoSize":true,"color":"black","h":10,"size":"m","text":"@","w":10},"rotation":0,"type":"text","typeName":"shape","x":0,"y":0}"#;
+
+// The same as version 1 has it.
+const TEXT_1: &str =
+    r#"{"alpha":10,"id":"shape:@","index":"@","isLocked":false,"meta":{},"parentId":"page:p","props":{"autoSize":true,"color":"black","h":10,"size":"m","text":"@","w":10},"rotation":0,"type":"text","typeName":"shape","x":0,"y":0}"#;
+
 // The presence of a session, of which `@` stands for its number and its user's name.
 const PRESENCE: &str =
     r#"{"color":"red","currentPageId":"page:p","cursor":null,"id":"instance_presence:@","meta":{},"selectedShapeIds":[],"typeName":"instance_presence","userName":"@"}"#;
@@ -46,6 +54,7 @@ const PRESENCE: &str =
 /// - `$G2(n,i,x)`, `$G2(n,i,x,o)` are the same as version 2 has them, and `$G1(n,i,x)`, `$G1(n,i,x,a)` as version 1 does,
 ///   with alpha a in place of 10;
 /// - `$D(n,i)` is the drawing `shape:n` of the one point 0, 0;
+/// - `$T(n,i,t)` is the text shape `shape:n` with the text t, and `$T1(n,i,t)` the same as version 1 has it;
 /// - `$R(n,u)` is the presence `instance_presence:n` of a user u on the page.
 ///
 /// # Errors
@@ -97,6 +106,8 @@ fn named(out: &mut String, name: &str, given: [&str; 4]) -> Result<(), Fail> {
         "G2" => fill(out, GEO_2, [first, index, or(seen, "100"), x]),
         "G1" => fill(out, GEO_1, [or(seen, "10"), first, index, x]),
         "D" => fill(out, DRAWING, [first, index, "", ""]),
+        "T" => fill(out, TEXT, [first, index, x, ""]),
+        "T1" => fill(out, TEXT_1, [first, index, x, ""]),
         "R" => fill(out, PRESENCE, [first, index, "", ""]),
         _ => Err(Fail::from("no short name of a record")),
     }

@@ -70,7 +70,7 @@ fn take_in<L: Ledger>(
 }
 
 /// The message of a text.
-fn message(alloc: Global, text: &str) -> Result<ServerMessage, Fail> {
+pub(crate) fn message(alloc: Global, text: &str) -> Result<ServerMessage, Fail> {
     let (word, rest) = first(text);
     match word {
         "answer" => answer(alloc, rest),

@@ -1,4 +1,4 @@
-//! Tests of clients, as scripts of calls over a store that counts its writes. The crate has no code of its own.
+//! Tests of clients, as scripts of calls over a store that counts its writes, and of peers. The crate has no code of its own.
 #![tactic(auto)]
 
 #[cfg(test)]
@@ -7,6 +7,8 @@ mod calls;
 mod client;
 #[cfg(test)]
 mod messages;
+#[cfg(test)]
+mod peers;
 #[cfg(test)]
 mod scripts;
 #[cfg(test)]

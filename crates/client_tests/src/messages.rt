@@ -61,7 +61,7 @@ pub(crate) fn answer(alloc: Global, text: &str) -> Result<ServerMessage, Fail> {
     Ok(ServerMessage::Connect {
         hydration_type: hydration(kept),
         connect_request_id: Text::of(alloc, request)?,
-        protocol_version: 1,
+        protocol_version: 2,
         schema: Serialized::new(alloc),
         diff,
         server_clock,

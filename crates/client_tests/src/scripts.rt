@@ -39,7 +39,7 @@ fn difference_at(
 }
 
 /// Whether a client shows what a row says, which is the same as before where the row says nothing.
-fn is_shown(now: &str, wanted: &str, before: &str) -> bool {
+pub(crate) fn is_shown(now: &str, wanted: &str, before: &str) -> bool {
     if wanted.is_empty() {
         now == before
     } else {
@@ -48,7 +48,7 @@ fn is_shown(now: &str, wanted: &str, before: &str) -> bool {
 }
 
 /// What a row gives in place of what it says.
-fn difference(alloc: Global, row: &str, found: &str) -> Result<Option<String>, Fail> {
+pub(crate) fn difference(alloc: Global, row: &str, found: &str) -> Result<Option<String>, Fail> {
     Ok(Some(format!(in alloc; "{found} at {row}")?))
 }
 
@@ -207,6 +207,43 @@ take data patch 13 {"pointer:b":["patch",{"x":["put",3]}]}; patch 14 {"pointer:d
 take data patch 15 {"pointer:b":["remove"]} | taken | 15 owes 0: note:a=4 note:c=2 pointer:d=1
 "#;
 
+/// Commits of its own edits, and what the base has under those that are left.
+const COMMITS: &str = r#"
+connect 4 | connect 4 -1
+take answer 4 wipe_all 3 {} | taken | 3 owes 0:
+edit {"note:a":["put",{"id":"note:a","typeName":"note","x":1}]} | {"note:a":["remove"]} | 3 owes 1: note:a=1
+edit {"note:a":["patch",{"x":["put",2]}]} | {"note:a":["patch",{"x":["put",1]}]} | 3 owes 2: note:a=2
+edit {"note:a":["remove"]} | {"note:a":["put",{"id":"note:a","typeName":"note","x":2}]} | 3 owes 3:
+edit {"note:b":["put",{"id":"note:b","typeName":"note","x":5}]} | {"note:b":["remove"]} | 3 owes 4: note:b=5
+push | push 1 {"note:a":["put",{"id":"note:a","typeName":"note","x":1}]}
+push | push 2 {"note:a":["patch",{"x":["put",2]}]}
+push | push 3 {"note:a":["remove"]}
+push | push 4 {"note:b":["put",{"id":"note:b","typeName":"note","x":5}]}
+# The base has the put, which the edits left hide, and then a patch of others.
+take data commit 4 1 | taken | 4 owes 3: note:b=5
+take data patch 5 {"note:a":["patch",{"x":["put",7]}]} | taken | 5 owes 3: note:b=5
+take data discard 6 2; discard 7 3 | taken | 7 owes 1: note:a=7 note:b=5
+take data commit 8 4 | taken | 8 owes 0: note:a=7 note:b=5
+# An id that no edit names any more is changed at once.
+take data patch 9 {"note:b":["patch",{"x":["put",6]}]} | taken | 9 owes 0: note:a=7 note:b=6
+# Two commits in one message, of which one leaves an id to a later edit.
+edit {"note:b":["patch",{"x":["put",1]}]} | {"note:b":["patch",{"x":["put",6]}]} | 9 owes 1: note:a=7 note:b=1
+edit {"note:a":["patch",{"x":["put",2]}]} | {"note:a":["patch",{"x":["put",7]}]} | 9 owes 2: note:a=2 note:b=1
+edit {"note:b":["patch",{"x":["put",3]}]} | {"note:b":["patch",{"x":["put",1]}]} | 9 owes 3: note:a=2 note:b=3
+push | push 5 {"note:b":["patch",{"x":["put",1]}]}
+push | push 6 {"note:a":["patch",{"x":["put",2]}]}
+push | push 7 {"note:b":["patch",{"x":["put",3]}]}
+take data commit 10 5; commit 11 6 | taken | 11 owes 1: note:a=2 note:b=3
+take data discard 12 7 | taken | 12 owes 0: note:a=2 note:b=1
+# A commit beside a patch of the same record in one message, before and after it.
+edit {"note:a":["patch",{"x":["put",3]}]} | {"note:a":["patch",{"x":["put",2]}]} | 12 owes 1: note:a=3 note:b=1
+edit {"note:b":["remove"]} | {"note:b":["put",{"id":"note:b","typeName":"note","x":1}]} | 12 owes 2: note:a=3
+push | push 8 {"note:a":["patch",{"x":["put",3]}]}
+push | push 9 {"note:b":["remove"]}
+take data commit 13 8; patch 14 {"note:a":["patch",{"x":["put",4]}]} | taken | 14 owes 1: note:a=4
+take data patch 15 {"note:b":["put",{"id":"note:b","typeName":"note","x":8}]}; commit 16 9 | taken | 16 owes 0: note:a=4
+"#;
+
 /// What an answer keeps of the base.
 const SNAPSHOTS: &str = r#"
 connect 1 | connect 1 -1
@@ -254,6 +291,7 @@ fn clients_do_what_their_scripts_say(rt: HostRuntime) -> Result<(), Fail> {
     plays(&rt, rt.alloc(), ENDS)?;
     plays(&rt, rt.alloc(), LOSSES)?;
     plays(&rt, rt.alloc(), REBASES)?;
+    plays(&rt, rt.alloc(), COMMITS)?;
     plays(&rt, rt.alloc(), SNAPSHOTS)?;
     plays(&rt, rt.alloc(), PRESENCES)
 }

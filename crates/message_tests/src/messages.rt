@@ -8,14 +8,14 @@ use wire_msgs::{Message, read_client, read_server};
 
 // A message of a client of each form.
 const CLIENTS: &str = r#"
-{"connectRequestId":"7","lastServerClock":-1,"protocolVersion":1,"schema":{"schemaVersion":2,"sequences":{"rooms.base":1}},"type":"connect"}
+{"connectRequestId":"7","lastServerClock":-1,"protocolVersion":2,"schema":{"schemaVersion":2,"sequences":{"rooms.base":1}},"type":"connect"}
 {"clientClock":1,"diff":{"page:a":["put",{"id":"page:a"}]},"presence":["put",{}],"type":"push"}
 {"type":"ping"}
 "#;
 
 // What a room sends, in each form: a message, with an event of each form, or why it ends a session.
 const ROOMS: &str = r#"
-{"connectRequestId":"7","diff":{"page:a":["put",{"id":"page:a"}]},"hydrationType":"wipe_presence","isReadonly":true,"protocolVersion":1,"schema":{"schemaVersion":2,"sequences":{"rooms.base":1}},"serverClock":3,"type":"connect"}
+{"connectRequestId":"7","diff":{"page:a":["put",{"id":"page:a"}]},"hydrationType":"wipe_presence","isReadonly":true,"protocolVersion":2,"schema":{"schemaVersion":2,"sequences":{"rooms.base":1}},"serverClock":3,"type":"connect"}
 {"type":"pong"}
 {"data":[{"diff":{"page:a":["put",{"id":"page:a"}]},"serverClock":4,"type":"patch"},{"action":"commit","clientClock":1,"serverClock":5,"type":"push_result"},{"action":"discard","clientClock":2,"serverClock":5,"type":"push_result"},{"action":{"rebaseWithDiff":{"page:a":["put",{"id":"page:a"}]}},"clientClock":3,"serverClock":5,"type":"push_result"}],"type":"data"}
 SLOW

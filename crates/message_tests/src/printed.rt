@@ -1,8 +1,8 @@
 //! The lines that are printed.
 use crate::tables::{Reading, plays};
 use case_tables::value;
-use rec_format::{IdList, PrintedLine, print_line, print_out};
-use room_model::OutLine;
+use rec_format::{PrintedLine, print_line, print_out};
+use room_model::{IdList, OutLine};
 use rooms_val::Text;
 use std::alloc::Global;
 use std::test::Fail;

@@ -71,7 +71,7 @@ Field | {"do":["end"]}
 Field | {"client":0}
 Field | {"do":"client"}
 Field | {"do":"client","version":0}
-Field | {"do":"client","version":4}
+Field | {"do":"client","version":6}
 Field | {"do":"client","version":-1}
 Field | {"do":"client","version":4294967297}
 Field | {"do":"client","version":"3"}
@@ -158,6 +158,7 @@ const HEADERS: &str = r#"
 1 | {"recording":1,"version":1}
 2 | {"recording":1,"version":2}
 3 |  { "version":3,"recording":1 }
+5 | {"recording":1,"version":5}
 "#;
 
 // Lines that are no header, each after the fault that is answered.
@@ -171,7 +172,7 @@ NoHeader | {"recording":2,"version":3}
 NoHeader | {"recording":"1","version":3}
 NoHeader | {"recording":true,"version":3}
 NoHeader | {"recording":1,"version":0}
-NoHeader | {"recording":1,"version":4}
+NoHeader | {"recording":1,"version":6}
 NoHeader | {"recording":1,"version":-3}
 NoHeader | {"recording":1,"version":"3"}
 NoHeader | {"made":1,"recording":1,"version":3}

@@ -3,6 +3,7 @@ use crate::build::built;
 use crate::sequences::listed;
 use case_tables::{cells, printed, value};
 use migrate_seq::{Plan, PlanFault, Sequences, Serialized};
+use rooms_val::Val;
 use std::alloc::Global;
 use std::test::Fail;
 
@@ -12,13 +13,22 @@ fn versions(alloc: Global, held: &str) -> Result<Serialized, Fail> {
     Ok(Serialized::read(alloc, &value(alloc, text.as_str())?)?)
 }
 
-/// The order in which a plan runs its migrations, as the record tells it.
+/// The order in which a plan runs its migrations, as the record tells it, and the same of a map that has it.
 fn order(alloc: Global, sequences: &Sequences, plan: &Plan) -> Result<String, Fail> {
     if !plan.records_only() {
         return Err(Fail::from("a plan of records was wanted"));
     }
     let after = sequences.up(alloc, plan, &value(alloc, r#"{"at":0}"#)?)?;
-    printed(alloc, &after)
+    let told = printed(alloc, &after)?;
+    let Val::Map(records) = value(alloc, r#"{"q":{"at":0},"r":7}"#)? else {
+        return Err(Fail::from("records by their ids were wanted"));
+    };
+    let all = printed(alloc, &Val::Map(sequences.up_map(alloc, plan, &records)?))?;
+    let wanted = format!(in alloc; "{{\"q\":{},\"r\":7}}", told.as_str())?;
+    if all.as_str() != wanted.as_str() {
+        return Ok(all);
+    }
+    Ok(told)
 }
 
 /// The record that tells an order.

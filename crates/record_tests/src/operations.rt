@@ -27,6 +27,15 @@ const CHANGES: &str = r#"
 {"k":[1]} | ["patch",{"k":["append",[],1]}] | {"k":[1]} and ["patch",{"k":["put",[1]]}]
 {"k":[1]} | ["patch",{"k":["append",[2],0]}] | {"k":[1]} and ["patch",{}]
 {"k":"t"} | ["patch",{"k":["append",[2],1]}] | {"k":"t"} and ["patch",{}]
+# A text takes an append where it has so many bytes.
+{"k":"t"} | ["patch",{"k":["append","u",1]}] | {"k":"tu"} and ["patch",{"k":["put","t"]}]
+{"k":""} | ["patch",{"k":["append","é",0]}] | {"k":"é"} and ["patch",{"k":["put",""]}]
+{"k":"é"} | ["patch",{"k":["append","!",2]}] | {"k":"é!"} and ["patch",{"k":["put","é"]}]
+{"k":"é"} | ["patch",{"k":["append","!",1]}] | {"k":"é"} and ["patch",{}]
+{"k":"t"} | ["patch",{"k":["append","u",0]}] | {"k":"t"} and ["patch",{}]
+{"k":"0123456789012345678901"} | ["patch",{"k":["append","2",22]}] | {"k":"01234567890123456789012"} and ["patch",{"k":["put","0123456789012345678901"]}]
+{"k":[1]} | ["patch",{"k":["append","t",1]}] | {"k":[1]} and ["patch",{}]
+{} | ["patch",{"k":["append","t",0]}] | {} and ["patch",{}]
 # A patch takes effect on a map.
 {"k":{"x":1}} | ["patch",{"k":["patch",{"y":["delete"]}]}] | {"k":{"x":1}} and ["patch",{"k":["patch",{}]}]
 {"k":5} | ["patch",{"k":["patch",{"x":["put",2]}]}] | {"k":5} and ["patch",{}]
@@ -49,6 +58,7 @@ const BOTH: &str = r#"
 const OPERATIONS: &str = r#"
 ["put",null] | =
 ["patch",{"a":["append",[1,[]],4294967295],"d":["delete"],"p":["patch",{}]}] | =
+["patch",{"k":["append","é",4294967295]}] | =
 ["remove"] | =
 # No lists that begin with a name of an operation on records.
 null | WrongKind
@@ -56,6 +66,7 @@ null | WrongKind
 [] | WrongKind
 ["Put",1] | WrongKind
 ["append",[1],0] | WrongKind
+["append","t",0] | WrongKind
 ["delete"] | WrongKind
 # A part less, a part more, and parts of another kind.
 ["put"] | WrongKind
@@ -67,6 +78,10 @@ null | WrongKind
 ["patch",{"k":["append",[],-1]}] | WrongKind
 ["patch",{"k":["append",[1]]}] | WrongKind
 ["patch",{"k":["append",{},0]}] | WrongKind
+["patch",{"k":["append",7,0]}] | WrongKind
+["patch",{"k":["append","t",4294967296]}] | WrongKind
+["patch",{"k":["append","t",-1]}] | WrongKind
+["patch",{"k":["append","t"]}] | WrongKind
 ["patch",{"k":["delete",null]}] | WrongKind
 ["patch",{"k":["remove"]}] | WrongKind
 ["patch",{"k":["patch",{"x":["put"]}]}] | WrongKind

@@ -2,7 +2,7 @@
 use crate::checks::fault_after;
 use crate::operations::{both, changed, many_text, read_text};
 use crate::schemas::{admitted, doubled, id_text, patched_text, weight_text};
-use crate::versions::{migrated, newest, since};
+use crate::versions::{board_raised, migrated, newest, returned, since};
 use case_tables::rows;
 use std::alloc::Global;
 use std::process::Abort;
@@ -35,6 +35,10 @@ pub(crate) enum Call {
     Newest,
     /// A record is raised and lowered.
     Migrate,
+    /// A record is lowered and raised again.
+    Round,
+    /// Records are raised together.
+    Board,
     /// What is held is planned for.
     Since,
 }
@@ -74,6 +78,8 @@ fn answer(alloc: Global, call: Call, given: &str) -> Result<String, Fail> {
         Call::Types => doubled(alloc, given),
         Call::Newest => newest(alloc, given),
         Call::Migrate => migrated(alloc, given),
+        Call::Round => returned(alloc, given),
+        Call::Board => board_raised(alloc, given),
         Call::Since => since(alloc, given),
     }
 }

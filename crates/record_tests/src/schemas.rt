@@ -10,13 +10,18 @@ use rooms_val::{Text, Val};
 use schema_core::{RecordFault, Schema, SchemaFault, Scope, TypeRow};
 use std::alloc::Global;
 use std::test::Fail;
-use tl_tables::schema_at;
+use tl_tables::{TableFault, schema_at};
 
 // A version, and `=` where it admits those of the table of records that it is to admit, and no others.
 const VERSIONS: &str = r#"
 1 | =
 2 | =
 3 | =
+4 | =
+5 | =
+# The tables have no other.
+0 | NoSuchVersion
+6 | NoSuchVersion
 "#;
 
 // A version, the id of a record, a patch of it, and what the schema answers then.
@@ -45,6 +50,16 @@ const PATCHES: &str = r#"
 3 | asset:i | {"props":["patch",{"src":["put",1]}]} | WrongKind 2
 3 | asset:i | {"props":["patch",{"src":["put",null],"mimeType":["put",[]]}]} | WrongKind 2
 3 | asset:i | {"props":["patch",{"dims":["put",{}]}]} | Extra 2
+4 | asset:i | {"props":["patch",{"dims":["patch",{"w":["put",7]}]}]} | Document
+4 | asset:i | {"props":["patch",{"dims":["patch",{"w":["put",-1]}]}]} | OutOfBounds 3
+4 | asset:i | {"props":["patch",{"dims":["patch",{"h":["delete"]}]}]} | Missing 3
+4 | asset:i | {"props":["patch",{"dims":["patch",{"d":["put",0]}]}]} | Extra 3
+4 | asset:i | {"props":["patch",{"dims":["put",null]}]} | WrongKind 2
+5 | asset:i | {"props":["patch",{"w":["put",7]}]} | Extra 2
+4 | page:p | {"hidden":["put",false]} | Extra 1
+5 | page:p | {"hidden":["put",true]} | Document
+5 | page:p | {"hidden":["put",0]} | WrongKind 1
+5 | page:p | {"hidden":["delete"]} | Missing 1
 3 | binding:b | {"type":["put","line"]} | NotListed 1
 3 | binding:b | {"fromId":["put","page:p"]} | BadId 1
 3 | binding:b | {"toId":["put","shape:"]} | BadId 1
@@ -192,7 +207,11 @@ fn admits_row(alloc: Global, schema: &Schema, version: &str, row: &str) -> Resul
 
 /// The first row of the table of records with another answer of the schema of a version, or `=`.
 pub(crate) fn admitted(alloc: Global, version: &str) -> Result<String, Fail> {
-    let schema = schema_of(alloc, version)?;
+    let schema = match schema_at(alloc, version.parse::<u32>()?) {
+        Ok(schema) => schema,
+        Err(TableFault::NoSuchVersion) => return Ok(String::from_str(alloc, "NoSuchVersion")?),
+        Err(TableFault::OutOfMemory) => return Err(Fail::from("memory was refused")),
+    };
     for row in &rows(alloc, RECORDS)? {
         if !admits_row(alloc, &schema, version, row)? {
             return Ok(String::from_str(alloc, row)?);

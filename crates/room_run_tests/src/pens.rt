@@ -3,6 +3,7 @@ use board_tables::expanded;
 use case_tables::printed;
 use field_ops::{diff_val, op_val};
 use room_events::RoomEvent;
+use room_model::limits::PROTOCOL;
 use room_run::{Closed, RunningRoom};
 use room_scripts::{first_difference, handled_text, out_text};
 use std::alloc::Global;
@@ -131,8 +132,15 @@ fn step_of(alloc: Global, number: u64, message: &ClientMessage) -> Result<String
     match message {
         ClientMessage::Connect {
             last_server_clock,
+            protocol_version,
             ..
-        } => Ok(format!(in alloc; "connect {number} 3 {last_server_clock}")?),
+        } => {
+            let step = format!(in alloc; "connect {number} 3 {last_server_clock}")?;
+            if *protocol_version == PROTOCOL {
+                return Ok(step);
+            }
+            Ok(format!(in alloc; "{step} {protocol_version}")?)
+        }
         ClientMessage::Push {
             client_clock,
             diff,

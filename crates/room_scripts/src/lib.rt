@@ -4,7 +4,7 @@
 //! named by its number. The steps are:
 //! - `enter`, `enter readonly`: a session enters; its number, or `Full`.
 //! - `fill n`: so many sessions enter; how many did.
-//! - `connect s v c`, `connect s v c p`: session s asks with the schema of version v, from clock c, in protocol p or 1. A v of
+//! - `connect s v c`, `connect s v c p`: session s asks with the schema of version v, from clock c, in protocol p or 2. A v of
 //!   `none` is a schema without sequences, and `newer` one that the room doesn't know.
 //! - `push s n d`: session s pushes the diff d with the client clock n; a d of `-` is none.
 //! - `presence s n o`: it pushes the operation o on its presence.

@@ -34,7 +34,7 @@ fn connect(alloc: Global, session: &str, rest: &str) -> Result<ClientMessage, Fa
         connect_request_id: Text::of(alloc, session)?,
         last_server_clock: whole(reached)?,
         protocol_version: if protocol.is_empty() {
-            1
+            2
         } else {
             whole(protocol)?
         },

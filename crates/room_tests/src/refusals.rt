@@ -16,9 +16,9 @@ ping 0 | CLIENT_TOO_OLD
 drain 0 | nothing
 # The protocol is looked at before the schema.
 enter | 1
-connect 1 none -1 2 | SERVER_TOO_OLD
+connect 1 none -1 3 | SERVER_TOO_OLD
 enter | 2
-connect 2 newer -1 0 | CLIENT_TOO_OLD
+connect 2 newer -1 1 | CLIENT_TOO_OLD
 enter | 3
 connect 3 newer -1 | SERVER_TOO_OLD
 enter | 4

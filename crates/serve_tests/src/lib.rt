@@ -15,6 +15,7 @@
 //! The second cell has each link's report, with how many arrivals are left; the third what went out on it, as texts and reasons. The
 //! fourth has the room's events when it is closed with those that are gone, and its clock. If the fourth begins with `..`, it is the
 //! end of that. `enters=n` stands there for the first n sessions' entering. A text of more than 1,000 bytes is written as its length.
+//! One thread that does those events in a new room must be given the same.
 //!
 //! What plays a table stands outside the tests, and tells the first difference. It says nothing in contracts but that who is gone was
 //! of the room, and that a new link had no fault: what a link and a room answer is looked at where the tests are run. Links by their

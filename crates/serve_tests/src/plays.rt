@@ -11,6 +11,7 @@ use case_tables::{cells, rows};
 use room_link::gate::Gate;
 use room_link::link::Link;
 use room_run::{Gone, RunningRoom};
+use room_run_tests::replay_difference;
 use room_serve::{Report, serve_link};
 use std::alloc::Global;
 use std::slice;
@@ -56,7 +57,8 @@ pub fn first_difference<R: Wait>(
 fn difference_at<R: Wait>(rt: &R, alloc: Global, row: &str) -> Result<Option<String>, Fail> {
     let [happens, reports, sent, pen] = cells(row);
     let found = played(rt, alloc, happens)?;
-    for (found, wanted) in [(&found[0], reports), (&found[1], sent), (&found[2], pen)] {
+    let wanted = [reports, sent, pen, ""];
+    for (found, wanted) in found.iter().zip(wanted.iter()) {
         let is_end = wanted.strip_prefix("..");
         let wanted = spelled(alloc, is_end.unwrap_or(wanted))?;
         let is_met = if is_end.is_some() {
@@ -71,8 +73,9 @@ fn difference_at<R: Wait>(rt: &R, alloc: Global, row: &str) -> Result<Option<Str
     Ok(None)
 }
 
-// What comes out: the reports, what went out, and the room's history.
-fn played<R: Wait>(rt: &R, alloc: Global, happens: &str) -> Result<[String; 3], Fail> {
+// What comes out: the reports, what went out, the room's history, and what one thread finds otherwise that does in a new room what
+// the history says.
+fn played<R: Wait>(rt: &R, alloc: Global, happens: &str) -> Result<[String; 4], Fail> {
     let room = opened(alloc)?;
     let notes = served(rt, alloc, &room, happens)?;
     let Notes {
@@ -82,7 +85,8 @@ fn played<R: Wait>(rt: &R, alloc: Global, happens: &str) -> Result<[String; 3], 
     } = notes;
     let closed = room.close(rt, gones);
     let pen = pen_text(alloc, &closed)?;
-    Ok([reports, sent, pen])
+    let replayed = replay_difference(alloc, &closed)?.unwrap_or(String::new(alloc));
+    Ok([reports, sent, pen, replayed])
 }
 
 // A running room of version 3 in which nothing has happened.

@@ -11,10 +11,13 @@ fn named(word: &str) -> &str {
     match word {
         "join" => r#"{"readonly":false,"room":0,"type":"join"}"#,
         "connect" => {
-            r#"{"connectRequestId":"0","lastServerClock":-1,"protocolVersion":1,"schema":{"schemaVersion":2,"sequences":{"rooms.base":1,"rooms.binding":1,"rooms.shape":2}},"type":"connect"}"#
+            r#"{"connectRequestId":"0","lastServerClock":-1,"protocolVersion":2,"schema":{"schemaVersion":2,"sequences":{"rooms.base":1,"rooms.binding":1,"rooms.shape":2}},"type":"connect"}"#
         }
         "newer" => {
-            r#"{"connectRequestId":"0","lastServerClock":-1,"protocolVersion":2,"schema":{"schemaVersion":2,"sequences":{"rooms.base":1,"rooms.binding":1,"rooms.shape":2}},"type":"connect"}"#
+            r#"{"connectRequestId":"0","lastServerClock":-1,"protocolVersion":3,"schema":{"schemaVersion":2,"sequences":{"rooms.base":1,"rooms.binding":1,"rooms.shape":2}},"type":"connect"}"#
+        }
+        "older" => {
+            r#"{"connectRequestId":"0","lastServerClock":-1,"protocolVersion":1,"schema":{"schemaVersion":2,"sequences":{"rooms.base":1,"rooms.binding":1,"rooms.shape":2}},"type":"connect"}"#
         }
         "push" => {
             r#"{"clientClock":1,"diff":{"page:p":["put",$P],"shape:a":["put",$G(a,a0,0)]},"type":"push"}"#
@@ -29,13 +32,13 @@ fn named(word: &str) -> &str {
 fn named_reply(word: &str) -> &str {
     match word {
         "answer" => {
-            r#"{"connectRequestId":"0","diff":{},"hydrationType":"wipe_all","isReadonly":false,"protocolVersion":1,"schema":{"schemaVersion":2,"sequences":{"rooms.base":1,"rooms.binding":1,"rooms.shape":2}},"serverClock":0,"type":"connect"}"#
+            r#"{"connectRequestId":"0","diff":{},"hydrationType":"wipe_all","isReadonly":false,"protocolVersion":2,"schema":{"schemaVersion":2,"sequences":{"rooms.base":1,"rooms.binding":1,"rooms.shape":2}},"serverClock":0,"type":"connect"}"#
         }
         "answer-readonly" => {
-            r#"{"connectRequestId":"0","diff":{},"hydrationType":"wipe_all","isReadonly":true,"protocolVersion":1,"schema":{"schemaVersion":2,"sequences":{"rooms.base":1,"rooms.binding":1,"rooms.shape":2}},"serverClock":0,"type":"connect"}"#
+            r#"{"connectRequestId":"0","diff":{},"hydrationType":"wipe_all","isReadonly":true,"protocolVersion":2,"schema":{"schemaVersion":2,"sequences":{"rooms.base":1,"rooms.binding":1,"rooms.shape":2}},"serverClock":0,"type":"connect"}"#
         }
         "later" => {
-            r#"{"connectRequestId":"0","diff":{"page:p":["put",$P],"shape:a":["put",$G(a,a0,0)]},"hydrationType":"wipe_all","isReadonly":false,"protocolVersion":1,"schema":{"schemaVersion":2,"sequences":{"rooms.base":1,"rooms.binding":1,"rooms.shape":2}},"serverClock":1,"type":"connect"}"#
+            r#"{"connectRequestId":"0","diff":{"page:p":["put",$P],"shape:a":["put",$G(a,a0,0)]},"hydrationType":"wipe_all","isReadonly":false,"protocolVersion":2,"schema":{"schemaVersion":2,"sequences":{"rooms.base":1,"rooms.binding":1,"rooms.shape":2}},"serverClock":1,"type":"connect"}"#
         }
         "commit" => {
             r#"{"data":[{"action":"commit","clientClock":1,"serverClock":1,"type":"push_result"}],"type":"data"}"#

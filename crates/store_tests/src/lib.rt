@@ -1,9 +1,11 @@
 //! Tests of the calls of the store layer, as tables: diffs that are applied to a store, transactions, edits that are
-//! completed or refused, marks, and plain queries. The crate has no code of its own.
+//! completed or refused, marks, plain queries, and pastes. The crate has no code of its own.
 #![tactic(auto)]
 
 #[cfg(test)]
 mod changes;
+#[cfg(test)]
+mod clips;
 #[cfg(test)]
 mod edits;
 #[cfg(test)]

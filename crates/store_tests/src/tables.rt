@@ -1,4 +1,5 @@
 //! Tables of texts, each row with what is made of its text.
+use crate::clips::{counts_text, paste_text};
 use crate::edits::{edit_text, removes_text};
 use crate::shapes::{joined_text, levels_text, met_text, moved_text, own_text, tree_text};
 use crate::stores::{aborted_text, applied_text, nested_text};
@@ -32,6 +33,10 @@ pub(crate) enum Reading {
     Levels,
     // Records, of which each meets a query or not.
     Met,
+    // Documents, what is copied of one, and where it is pasted.
+    Paste,
+    // Counts of shapes that are copied.
+    Counts,
 }
 
 // What is made of a text.
@@ -48,6 +53,8 @@ fn answer(alloc: Global, reading: Reading, text: &str) -> Result<String, Fail> {
         Reading::Tree => tree_text(alloc, text),
         Reading::Levels => levels_text(alloc, text),
         Reading::Met => met_text(alloc, text),
+        Reading::Paste => paste_text(alloc, text),
+        Reading::Counts => counts_text(alloc, text),
     }
 }
 

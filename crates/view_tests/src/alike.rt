@@ -76,3 +76,53 @@ abort
 fn an_inner_transaction_is_aborted_in_both(rt: HostRuntime) -> Result<(), Fail> {
     alike(&rt, rt.alloc(), NESTED)
 }
+
+// How long lists are: none, one, as many as stand together, one more, and some hundreds.
+const LENGTHS: [u32; 5] = [0, 1, 128, 129, 260];
+
+// Puts so many shapes on a page, far from the order of their ids, two by one index. Then the first
+// goes behind the last, the second before the first, both to another page and one back, and each
+// third goes.
+fn listed(alloc: Global, count: u32) -> Result<String, Fail> {
+    let mut script = String::from_str(alloc, "page p\npage q\nlook\n")?;
+    for number in 0..count {
+        let place = number.wrapping_mul(179) % 400;
+        script.push_str(format!(in alloc;
+            "geo s{number} a{} page:p {place} 1\n",
+            1000 + place / 2
+        )?.as_str())?;
+    }
+    let moves = r#"look
+set shape:s0 index "b"
+look
+set shape:s1 index "a"
+look
+set shape:s0 parentId "page:q"
+set shape:s1 parentId "page:q"
+look
+set shape:s0 parentId "page:p"
+look
+begin
+set shape:s2 parentId "page:q"
+set shape:s2 index "b"
+look
+abort
+look
+"#;
+    script.push_str(moves)?;
+    for number in 0..count / 3 {
+        script.push_str(format!(in alloc; "take shape:s{}\n", number * 3)?.as_str())?;
+    }
+    script.push_str("look\n")?;
+    Ok(script)
+}
+
+#[test]
+fn lists_of_any_length_are_those_of_a_plain_store(rt: HostRuntime) -> Result<(), Fail> {
+    let alloc = rt.alloc();
+    for count in LENGTHS {
+        let script = listed(alloc, count)?;
+        alike(&rt, alloc, script.as_str())?;
+    }
+    Ok(())
+}

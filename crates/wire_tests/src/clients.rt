@@ -8,7 +8,7 @@ use wire_msgs::{Message, read_client};
 
 // A message of each form, as it is printed.
 const MESSAGES: &str = r#"
-{"connectRequestId":"7","lastServerClock":-1,"protocolVersion":1,"schema":{"schemaVersion":2,"sequences":{"rooms.base":1}},"type":"connect"}
+{"connectRequestId":"7","lastServerClock":-1,"protocolVersion":2,"schema":{"schemaVersion":2,"sequences":{"rooms.base":1}},"type":"connect"}
 {"connectRequestId":"","lastServerClock":9007199254740991,"protocolVersion":-3,"schema":{"schemaVersion":2,"sequences":{}},"type":"connect"}
 {"connectRequestId":"é\n","lastServerClock":-9007199254740991,"protocolVersion":0,"schema":{"schemaVersion":2,"sequences":{"":0,"a/b":9007199254740991}},"type":"connect"}
 {"clientClock":0,"type":"push"}
@@ -24,7 +24,7 @@ const MESSAGES: &str = r#"
 const WRITTEN_OTHERWISE: &str = r#"
 {"type":"ping"} |  { "type" : "push", "type":"p\u0069ng" }
 {"clientClock":5,"diff":{},"presence":["put",null],"type":"push"} | {"type":"push","presence":["put",null],"diff":{},"clientClock":5}
-{"connectRequestId":"7","lastServerClock":2,"protocolVersion":1,"schema":{"schemaVersion":2,"sequences":{}},"type":"connect"} | {"schema":{"sequences":{},"schemaVersion":2},"type":"connect","protocolVersion":1,"lastServerClock":2,"connectRequestId":"7"}
+{"connectRequestId":"7","lastServerClock":2,"protocolVersion":2,"schema":{"schemaVersion":2,"sequences":{}},"type":"connect"} | {"schema":{"sequences":{},"schemaVersion":2},"type":"connect","protocolVersion":2,"lastServerClock":2,"connectRequestId":"7"}
 "#;
 
 // Texts that are no message of a client, each after the fault that is answered. Where several
@@ -46,26 +46,26 @@ UnknownType | {"type":"data","data":[]}
 UnknownType | {"clientClock":-1,"type":"pushes"}
 UnknownType | {"clientClock":1,"diff":{}}
 MissingField | {"type":"connect"}
-MissingField | {"lastServerClock":0,"protocolVersion":1,"schema":{"schemaVersion":2,"sequences":{}},"type":"connect"}
-MissingField | {"connectRequestId":"7","protocolVersion":1,"schema":{"schemaVersion":2,"sequences":{}},"type":"connect"}
+MissingField | {"lastServerClock":0,"protocolVersion":2,"schema":{"schemaVersion":2,"sequences":{}},"type":"connect"}
+MissingField | {"connectRequestId":"7","protocolVersion":2,"schema":{"schemaVersion":2,"sequences":{}},"type":"connect"}
 MissingField | {"connectRequestId":"7","lastServerClock":0,"schema":{"schemaVersion":2,"sequences":{}},"type":"connect"}
-MissingField | {"connectRequestId":"7","lastServerClock":0,"protocolVersion":1,"type":"connect"}
-MissingField | {"connectRequestId":7,"lastServerClock":0,"protocolVersion":1,"type":"connect","x":1}
+MissingField | {"connectRequestId":"7","lastServerClock":0,"protocolVersion":2,"type":"connect"}
+MissingField | {"connectRequestId":7,"lastServerClock":0,"protocolVersion":2,"type":"connect","x":1}
 MissingField | {"type":"push"}
 MissingField | {"clientclock":1,"type":"push"}
 MissingField | {"diff":[],"presence":["remove"],"type":"push"}
 MissingField | {"diff":{},"readonly":true,"type":"push"}
-ExtraField | {"connectRequestId":7,"diff":{},"lastServerClock":0,"protocolVersion":1,"schema":{"schemaVersion":2,"sequences":{}},"type":"connect"}
+ExtraField | {"connectRequestId":7,"diff":{},"lastServerClock":0,"protocolVersion":2,"schema":{"schemaVersion":2,"sequences":{}},"type":"connect"}
 ExtraField | {"clientClock":-1,"serverClock":1,"type":"push"}
 ExtraField | {"clientClock":1,"diff":{},"presences":["put",1],"type":"push"}
 ExtraField | {"":null,"clientClock":1,"type":"push"}
 ExtraField | {"clientClock":1,"type":"ping"}
-WrongKind | {"connectRequestId":7,"lastServerClock":0,"protocolVersion":1,"schema":{"schemaVersion":2,"sequences":{}},"type":"connect"}
-WrongKind | {"connectRequestId":"7","lastServerClock":"0","protocolVersion":1,"schema":{"schemaVersion":2,"sequences":{}},"type":"connect"}
+WrongKind | {"connectRequestId":7,"lastServerClock":0,"protocolVersion":2,"schema":{"schemaVersion":2,"sequences":{}},"type":"connect"}
+WrongKind | {"connectRequestId":"7","lastServerClock":"0","protocolVersion":2,"schema":{"schemaVersion":2,"sequences":{}},"type":"connect"}
 WrongKind | {"connectRequestId":"7","lastServerClock":0,"protocolVersion":null,"schema":{"schemaVersion":2,"sequences":{}},"type":"connect"}
-WrongKind | {"connectRequestId":"7","lastServerClock":0,"protocolVersion":1,"schema":{},"type":"connect"}
-WrongKind | {"connectRequestId":"7","lastServerClock":0,"protocolVersion":1,"schema":{"schemaVersion":1,"sequences":{}},"type":"connect"}
-WrongKind | {"connectRequestId":"7","lastServerClock":0,"protocolVersion":1,"schema":{"schemaVersion":2,"sequences":{"a":-1}},"type":"connect"}
+WrongKind | {"connectRequestId":"7","lastServerClock":0,"protocolVersion":2,"schema":{},"type":"connect"}
+WrongKind | {"connectRequestId":"7","lastServerClock":0,"protocolVersion":2,"schema":{"schemaVersion":1,"sequences":{}},"type":"connect"}
+WrongKind | {"connectRequestId":"7","lastServerClock":0,"protocolVersion":2,"schema":{"schemaVersion":2,"sequences":{"a":-1}},"type":"connect"}
 WrongKind | {"clientClock":-1,"type":"push"}
 WrongKind | {"clientClock":true,"diff":{},"type":"push"}
 WrongKind | {"clientClock":1,"diff":null,"type":"push"}

@@ -8,7 +8,7 @@ use wire_msgs::{Message, read_server};
 
 // A message of each form, and an event of each, as it is printed.
 const MESSAGES: &str = r#"
-{"connectRequestId":"7","diff":{"page:a":["put",{"id":"page:a"}]},"hydrationType":"wipe_all","isReadonly":false,"protocolVersion":1,"schema":{"schemaVersion":2,"sequences":{"rooms.base":1,"rooms.shape":1}},"serverClock":0,"type":"connect"}
+{"connectRequestId":"7","diff":{"page:a":["put",{"id":"page:a"}]},"hydrationType":"wipe_all","isReadonly":false,"protocolVersion":2,"schema":{"schemaVersion":2,"sequences":{"rooms.base":1,"rooms.shape":1}},"serverClock":0,"type":"connect"}
 {"connectRequestId":"","diff":{},"hydrationType":"wipe_presence","isReadonly":true,"protocolVersion":-1,"schema":{"schemaVersion":2,"sequences":{}},"serverClock":9007199254740991,"type":"connect"}
 {"data":[],"type":"data"}
 {"data":[{"diff":{},"serverClock":0,"type":"patch"}],"type":"data"}
@@ -21,7 +21,7 @@ const MESSAGES: &str = r#"
 const WRITTEN_OTHERWISE: &str = r#"
 {"data":[{"diff":{},"serverClock":1,"type":"patch"}],"type":"data"} | { "type":"data", "data":[ {"type":"patch","serverClock":1,"diff":{}} ] }
 {"data":[{"action":"commit","clientClock":1,"serverClock":2,"type":"push_result"}],"type":"data"} | {"type":"data","data":[{"type":"push_result","serverClock":2,"clientClock":1,"action":"commit"}]}
-{"connectRequestId":"7","diff":{},"hydrationType":"wipe_all","isReadonly":false,"protocolVersion":1,"schema":{"schemaVersion":2,"sequences":{}},"serverClock":3,"type":"connect"} | {"type":"connect","serverClock":3,"schema":{"sequences":{},"schemaVersion":2},"protocolVersion":1,"isReadonly":false,"hydrationType":"wipe_all","diff":{},"connectRequestId":"7"}
+{"connectRequestId":"7","diff":{},"hydrationType":"wipe_all","isReadonly":false,"protocolVersion":2,"schema":{"schemaVersion":2,"sequences":{}},"serverClock":3,"type":"connect"} | {"type":"connect","serverClock":3,"schema":{"sequences":{},"schemaVersion":2},"protocolVersion":2,"isReadonly":false,"hydrationType":"wipe_all","diff":{},"connectRequestId":"7"}
 "#;
 
 // Texts that are no message of a room, each after the fault that is answered. Where several causes
@@ -38,24 +38,24 @@ UnknownType | {"type":"ping"}
 UnknownType | {"type":"join","readonly":false,"room":0}
 UnknownType | {"data":1,"type":"DATA"}
 MissingField | {"type":"connect"}
-MissingField | {"diff":{},"hydrationType":"wipe_all","isReadonly":false,"protocolVersion":1,"schema":{"schemaVersion":2,"sequences":{}},"serverClock":3,"type":"connect"}
-MissingField | {"connectRequestId":"7","hydrationType":"wipe_all","isReadonly":false,"protocolVersion":1,"schema":{"schemaVersion":2,"sequences":{}},"serverClock":3,"type":"connect"}
-MissingField | {"connectRequestId":"7","diff":{},"isReadonly":false,"protocolVersion":1,"schema":{"schemaVersion":2,"sequences":{}},"serverClock":3,"type":"connect"}
-MissingField | {"connectRequestId":"7","diff":{},"hydrationType":"wipe_all","protocolVersion":1,"schema":{"schemaVersion":2,"sequences":{}},"serverClock":3,"type":"connect"}
+MissingField | {"diff":{},"hydrationType":"wipe_all","isReadonly":false,"protocolVersion":2,"schema":{"schemaVersion":2,"sequences":{}},"serverClock":3,"type":"connect"}
+MissingField | {"connectRequestId":"7","hydrationType":"wipe_all","isReadonly":false,"protocolVersion":2,"schema":{"schemaVersion":2,"sequences":{}},"serverClock":3,"type":"connect"}
+MissingField | {"connectRequestId":"7","diff":{},"isReadonly":false,"protocolVersion":2,"schema":{"schemaVersion":2,"sequences":{}},"serverClock":3,"type":"connect"}
+MissingField | {"connectRequestId":"7","diff":{},"hydrationType":"wipe_all","protocolVersion":2,"schema":{"schemaVersion":2,"sequences":{}},"serverClock":3,"type":"connect"}
 MissingField | {"connectRequestId":"7","diff":{},"hydrationType":"wipe_all","isReadonly":false,"schema":{"schemaVersion":2,"sequences":{}},"serverClock":3,"type":"connect"}
-MissingField | {"connectRequestId":"7","diff":{},"hydrationType":"wipe_all","isReadonly":false,"protocolVersion":1,"serverClock":3,"type":"connect"}
-MissingField | {"connectRequestId":7,"diff":[],"hydrationType":"wipe","isReadonly":0,"protocolVersion":1,"schema":{},"type":"connect","x":1}
+MissingField | {"connectRequestId":"7","diff":{},"hydrationType":"wipe_all","isReadonly":false,"protocolVersion":2,"serverClock":3,"type":"connect"}
+MissingField | {"connectRequestId":7,"diff":[],"hydrationType":"wipe","isReadonly":0,"protocolVersion":2,"schema":{},"type":"connect","x":1}
 MissingField | {"datum":[],"type":"data"}
-ExtraField | {"connectRequestId":"7","diff":{},"hydrationType":"wipe_all","isReadonly":false,"presence":{},"protocolVersion":1,"schema":{},"serverClock":-3,"type":"connect"}
+ExtraField | {"connectRequestId":"7","diff":{},"hydrationType":"wipe_all","isReadonly":false,"presence":{},"protocolVersion":2,"schema":{},"serverClock":-3,"type":"connect"}
 ExtraField | {"data":null,"serverClock":1,"type":"data"}
 ExtraField | {"data":[],"type":"pong"}
-WrongKind | {"connectRequestId":null,"diff":{},"hydrationType":"wipe_all","isReadonly":false,"protocolVersion":1,"schema":{"schemaVersion":2,"sequences":{}},"serverClock":3,"type":"connect"}
-WrongKind | {"connectRequestId":"7","diff":{"a":["delete"]},"hydrationType":"wipe_all","isReadonly":false,"protocolVersion":1,"schema":{"schemaVersion":2,"sequences":{}},"serverClock":3,"type":"connect"}
-WrongKind | {"connectRequestId":"7","diff":{},"hydrationType":"wipeAll","isReadonly":false,"protocolVersion":1,"schema":{"schemaVersion":2,"sequences":{}},"serverClock":3,"type":"connect"}
-WrongKind | {"connectRequestId":"7","diff":{},"hydrationType":"wipe_all","isReadonly":"false","protocolVersion":1,"schema":{"schemaVersion":2,"sequences":{}},"serverClock":3,"type":"connect"}
-WrongKind | {"connectRequestId":"7","diff":{},"hydrationType":"wipe_all","isReadonly":false,"protocolVersion":"1","schema":{"schemaVersion":2,"sequences":{}},"serverClock":3,"type":"connect"}
-WrongKind | {"connectRequestId":"7","diff":{},"hydrationType":"wipe_all","isReadonly":false,"protocolVersion":1,"schema":{"schemaVersion":2,"sequences":[]},"serverClock":3,"type":"connect"}
-WrongKind | {"connectRequestId":"7","diff":{},"hydrationType":"wipe_all","isReadonly":false,"protocolVersion":1,"schema":{"schemaVersion":2,"sequences":{}},"serverClock":-1,"type":"connect"}
+WrongKind | {"connectRequestId":null,"diff":{},"hydrationType":"wipe_all","isReadonly":false,"protocolVersion":2,"schema":{"schemaVersion":2,"sequences":{}},"serverClock":3,"type":"connect"}
+WrongKind | {"connectRequestId":"7","diff":{"a":["delete"]},"hydrationType":"wipe_all","isReadonly":false,"protocolVersion":2,"schema":{"schemaVersion":2,"sequences":{}},"serverClock":3,"type":"connect"}
+WrongKind | {"connectRequestId":"7","diff":{},"hydrationType":"wipeAll","isReadonly":false,"protocolVersion":2,"schema":{"schemaVersion":2,"sequences":{}},"serverClock":3,"type":"connect"}
+WrongKind | {"connectRequestId":"7","diff":{},"hydrationType":"wipe_all","isReadonly":"false","protocolVersion":2,"schema":{"schemaVersion":2,"sequences":{}},"serverClock":3,"type":"connect"}
+WrongKind | {"connectRequestId":"7","diff":{},"hydrationType":"wipe_all","isReadonly":false,"protocolVersion":"2","schema":{"schemaVersion":2,"sequences":{}},"serverClock":3,"type":"connect"}
+WrongKind | {"connectRequestId":"7","diff":{},"hydrationType":"wipe_all","isReadonly":false,"protocolVersion":2,"schema":{"schemaVersion":2,"sequences":[]},"serverClock":3,"type":"connect"}
+WrongKind | {"connectRequestId":"7","diff":{},"hydrationType":"wipe_all","isReadonly":false,"protocolVersion":2,"schema":{"schemaVersion":2,"sequences":{}},"serverClock":-1,"type":"connect"}
 WrongKind | {"data":{},"type":"data"}
 WrongKind | {"data":[[]],"type":"data"}
 WrongKind | {"data":[{}],"type":"data"}

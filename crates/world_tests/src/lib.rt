@@ -8,10 +8,16 @@ mod conflicts;
 #[cfg(test)]
 mod connections;
 #[cfg(test)]
+mod copies;
+#[cfg(test)]
 mod marks;
 #[cfg(test)]
 mod played;
 #[cfg(test)]
 mod refusals;
+#[cfg(test)]
+mod typing;
+#[cfg(test)]
+mod versions;
 #[cfg(test)]
 mod views;

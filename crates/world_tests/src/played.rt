@@ -19,6 +19,7 @@ get 1 1
 "#;
 
 // A script that is played in a world of its own.
+#[derive(Drop)]
 pub(crate) struct Script<'a> {
     // What it shows.
     pub(crate) shows: &'a str,
