@@ -4,6 +4,7 @@ use crate::touching::Calls;
 use doc_store::MapDoc;
 use field_ops::{Diff, RecordOp};
 use migrate_seq::Serialized;
+use room_model::limits::PROTOCOL;
 use rooms_val::{Mem, OutOfMemory, Steps, Text};
 use std::alloc::Global;
 use std::sync::ledger::Ledger;
@@ -98,7 +99,7 @@ fn answer(alloc: Global, ids: &[Text]) -> Mem<ServerMessage> {
     Ok(ServerMessage::Connect {
         hydration_type: Hydration::WipeAll,
         connect_request_id: Text::of(alloc, "0")?,
-        protocol_version: 1,
+        protocol_version: PROTOCOL,
         schema: Serialized::new(alloc),
         diff,
         server_clock: 1,

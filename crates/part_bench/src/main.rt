@@ -7,6 +7,8 @@
 //!   comes to the last clock.
 //! - `copy` makes the texts of the same calls, and touches nothing by them. It comes to how many bytes were copied.
 //! - `push` pushes a patch of one of SIZE pages into a room at each call. It comes to the room's clock.
+//! - `return` lets at each call a session come back to a room of SIZE pages that has reached its clock, gives it the answer and lets
+//!   it leave. It comes to how many were told to keep what they have.
 //! - `take` lets a client of SIZE shapes take a data message at each call, which patches one of them, and `make` makes the same
 //!   client and messages and takes none. They come to the clock that the client reached.
 //! - `read_data` reads at each call a data message with SIZE patches, and `print_data` prints it. They come to how many events
@@ -28,6 +30,8 @@
 //!   has as many threads do the same in running rooms, each for a session. They come to the sum of the rooms' clocks.
 //! - `wait` has STEP threads, 1 to 8, each push a patch of SIZE pages of its own into one running room at each call. It comes to the
 //!   room's clock.
+//! - `raise` takes SIZE shapes of version 1 up to version 4 at each call, as one map, and `raise_each` one by one, into a list.
+//!   They come to how many were taken up.
 //! - `all` is each of these, one after another.
 //!
 //! For each call that was asked for the program prints its words, and what the call comes to.
@@ -43,6 +47,8 @@ mod cutting;
 mod made;
 mod marks;
 mod messages;
+mod raising;
+mod returns;
 mod rooms;
 mod sharing;
 mod signals;
@@ -54,6 +60,7 @@ mod values;
 use boards::Work;
 use clients::Messages;
 use made::ids_of;
+use raising::Raise;
 use rooms_val::{Mem, Steps, Text};
 use sharing::SHARED;
 use std::alloc::Global;
@@ -67,7 +74,7 @@ use touching::Calls;
 use values::OnValue;
 
 const USAGE: &str =
-    "usage: part_bench WORD SIZE CALLS STEP, where WORD is all or one of read_value weigh_value copy_value print_value touch copy push take make read_data print_data marks cut compute write hold views put seek walk turn share wait";
+    "usage: part_bench WORD SIZE CALLS STEP, where WORD is all or one of read_value weigh_value copy_value print_value touch copy push return take make read_data print_data marks cut compute write hold views put seek walk raise raise_each turn share wait";
 
 /// Which call is done many times.
 #[derive(Clone, Copy)]
@@ -75,6 +82,7 @@ enum Call {
     OnValue(OnValue),
     OnShapes(OnShapes),
     Push,
+    Return,
     Turn,
     Cut,
     Compute,
@@ -92,10 +100,11 @@ enum OnShapes {
     PrintData,
     Marks,
     Store(Work),
+    Raise(Raise),
 }
 
 /// Each call, by its word.
-const CALLS: [(&str, Call); 21] = [
+const CALLS: [(&str, Call); 24] = [
     ("read_value", Call::OnValue(OnValue::Read)),
     ("weigh_value", Call::OnValue(OnValue::Weigh)),
     ("copy_value", Call::OnValue(OnValue::Copy)),
@@ -103,6 +112,7 @@ const CALLS: [(&str, Call); 21] = [
     ("touch", Call::OnShapes(OnShapes::Touch)),
     ("copy", Call::OnShapes(OnShapes::Copy)),
     ("push", Call::Push),
+    ("return", Call::Return),
     ("turn", Call::Turn),
     ("take", Call::OnShapes(OnShapes::Client(Messages::Taken))),
     ("make", Call::OnShapes(OnShapes::Client(Messages::Made))),
@@ -117,6 +127,8 @@ const CALLS: [(&str, Call); 21] = [
     ("put", Call::OnShapes(OnShapes::Store(Work::Put))),
     ("seek", Call::OnShapes(OnShapes::Store(Work::Seek))),
     ("walk", Call::OnShapes(OnShapes::Store(Work::Walk))),
+    ("raise", Call::OnShapes(OnShapes::Raise(Raise::Together))),
+    ("raise_each", Call::OnShapes(OnShapes::Raise(Raise::Alone))),
 ];
 
 impl Call {
@@ -143,6 +155,7 @@ impl Call {
                 call.repeated(alloc, &ids_of(alloc, "shape", size)?, calls, &mut steps)
             }
             Call::Push => rooms::pushed(alloc, size, calls, &mut steps),
+            Call::Return => returns::returned(alloc, size, calls.count, &mut steps),
             Call::Turn => turns::turned(alloc, size, calls, &mut steps),
             Call::Cut => cutting::cut(alloc, size, calls.count),
             Call::Compute => signals::computed(alloc, size, calls, &mut steps),
@@ -169,6 +182,7 @@ impl OnShapes {
             OnShapes::PrintData => messages::printed(alloc, ids, calls.count),
             OnShapes::Marks => marks::kept(alloc, ids, calls),
             OnShapes::Store(Work::Put) => boards::put_times(alloc, ids, calls, steps),
+            OnShapes::Raise(way) => raising::raised(way, alloc, ids, calls.count),
             OnShapes::Store(work) => boards::worked(work, alloc, ids, calls, steps),
         }
     }

@@ -8,6 +8,7 @@ use crate::made::{diff_of, ids_of, patch, record_of};
 use crate::touching::Calls;
 use field_ops::{Diff, RecordOp};
 use migrate_seq::Serialized;
+use room_model::limits::PROTOCOL;
 use rooms_val::{Mem, OutOfMemory, Steps, Text, Val};
 use std::alloc::Global;
 use std::sync::ledger::Ledger;
@@ -40,13 +41,27 @@ pub(crate) fn pushed<L: Ledger>(
     }
 }
 
-/// A room of the newest version, in which nothing has happened.
+/// A room of version 3, in which nothing has happened.
 pub(crate) fn new_room(alloc: Global) -> Result<Room, TableFault>
     ensures { IfOk result (λ room. (bound : ℕ) × Stands (model.new_room bound) room) }
 {
     let schema = schema_at(alloc, 3)?;
     tables_have_presences();
     Ok(Room::new(alloc, schema, LAST)?)
+}
+
+/// Lets a session come and put the pages; it stays.
+pub(crate) fn fill<L: Ledger>(
+    alloc: Global,
+    room: &mut Room,
+    pages: &[Text],
+    steps: &mut Steps<L>,
+) -> Mem<()> {
+    if room.enter(alloc, false).is_err() {
+        return Err(OutOfMemory);
+    }
+    exchange(alloc, room, &connect_message(alloc)?, steps)?;
+    push(alloc, room, 0, puts(alloc, pages)?, steps)
 }
 
 /// Lets a session come, put the pages and push the patch of each call.
@@ -57,11 +72,7 @@ fn push_all<L: Ledger>(
     calls: Calls,
     steps: &mut Steps<L>,
 ) -> Mem<i64> {
-    if room.enter(alloc, false).is_err() {
-        return Err(OutOfMemory);
-    }
-    exchange(alloc, room, &connect_message(alloc)?, steps)?;
-    push(alloc, room, 0, puts(alloc, pages)?, steps)?;
+    fill(alloc, room, pages, steps)?;
     for call in 0..calls.count {
         if let Some(id) = calls.id(pages, call) {
             let diff = renamed(alloc, id)?;
@@ -71,13 +82,18 @@ fn push_all<L: Ledger>(
     Ok(room.clock())
 }
 
-/// The message by which the session asks to be connected.
+/// The message by which a session asks to be connected that comes for the first time.
 pub(crate) fn connect_message(alloc: Global) -> Mem<ClientMessage> {
+    connect_from(alloc, -1)
+}
+
+/// The message by which a session asks to be connected that has reached a clock.
+pub(crate) fn connect_from(alloc: Global, reached: i64) -> Mem<ClientMessage> {
     let schema = versions(alloc)?;
     Ok(ClientMessage::Connect {
         connect_request_id: Text::of(alloc, "0")?,
-        last_server_clock: -1,
-        protocol_version: 1,
+        last_server_clock: reached,
+        protocol_version: PROTOCOL,
         schema,
     })
 }
