@@ -1,9 +1,10 @@
 #!/usr/bin/env python3
 """Joins room 0 of a server on this machine, draws a page there, and prints what it is told, until it is interrupted:
 
-    python3 examples/client.py PORT NAME
+    python3 examples/client.py PORT NAME [BOARD]
 
-The page is NAME's own; `ann` will do. It stands on Debian's package python3-websockets, or on websockets of PyPI.
+The page is NAME's own; `ann` will do. With BOARD it goes to that board behind a proxy, as docs/SERVICE.md says, and the page is the
+board's. It stands on Debian's package python3-websockets, or on websockets of PyPI.
 What the texts mean is in docs/FORMATS.md, under 'Messages' and 'Sockets'.
 """
 import asyncio
@@ -16,11 +17,12 @@ import websockets
 VERSION_3 = {"schemaVersion": 2, "sequences": {"rooms.base": 1, "rooms.binding": 1, "rooms.shape": 2}}
 
 
-async def draw(port, name):
-    page = {"id": f"page:{name}", "index": "a1", "meta": {}, "name": f"{name}'s page", "typeName": "page"}
-    async with websockets.connect(f"ws://127.0.0.1:{port}/", max_size=None) as link:
-        await link.send(json.dumps({"readonly": False, "room": 0, "type": "join"}))
-        await link.send(json.dumps({"connectRequestId": name, "lastServerClock": -1, "protocolVersion": 1,
+async def draw(port, name, board=None):
+    path, room = (f"/board/{board}", sum(board.encode()) % 16) if board else ("/", 0)
+    page = {"id": f"page:{board or name}", "index": "a1", "meta": {}, "name": f"{name}'s page", "typeName": "page"}
+    async with websockets.connect(f"ws://127.0.0.1:{port}{path}", max_size=None) as link:
+        await link.send(json.dumps({"readonly": False, "room": room, "type": "join"}))
+        await link.send(json.dumps({"connectRequestId": name, "lastServerClock": -1, "protocolVersion": 2,
                                     "schema": VERSION_3, "type": "connect"}))
         print(await link.recv(), flush=True)  # the room's document
         await link.send(json.dumps({"clientClock": 1, "diff": {page["id"]: ["put", page]}, "type": "push"}))
@@ -29,7 +31,7 @@ async def draw(port, name):
 
 
 try:
-    asyncio.run(draw(*sys.argv[1:3]))
+    asyncio.run(draw(*sys.argv[1:4]))
 except websockets.ConnectionClosed as closed:
     print(f"the server ended it: {closed}")
 except KeyboardInterrupt:
