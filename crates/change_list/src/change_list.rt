@@ -1,5 +1,5 @@
 //! The list of what changed, and when.
-ghost use Rattle.std.specs.Prelude.{◌≡◌, ℕ, ◌+◌, ◌<◌, ◌≤◌, pos, [], ◌∷◌, ◌++◌, length, filter, true, false, IsTrue, ◌↔◌, IsOk, IfOk, OnOk, OnErr};
+ghost use Rattle.std.specs.Prelude.{◌≡◌, ℕ, ◌+◌, ◌<◌, ◌≤◌, ◌≤ℤ◌, pos, [], ◌∷◌, ◌++◌, length, filter, true, false, IsTrue, ◌↔◌, IsOk, IfOk, OnOk, OnErr};
 ghost use Rattle.change_list.specs.Changes.{listed, IsListed, without_id, AreUpTo, AreInOrder, is_after, AreSince, most_dead, kept_dead, next_start, next_dead};
 
 use crate::entries::{Change, dead_without, insert_node, move_to, place_of, take_node};
@@ -53,6 +53,14 @@ impl ChangeList {
     pub fn new(alloc: Global) -> Mem<ChangeList>
         ensures { IfOk result (λ l. (l.live ≡ []) × (l.dead ≡ []) × (l.start ≡ pos 0)) }
     {
+        ChangeList::starting(alloc, 0)
+    }
+
+    /// A list without ids, whose dead begin at a clock from 0 on.
+    pub fn starting(alloc: Global, start: i64) -> Mem<ChangeList>
+        requires { pos 0 ≤ℤ start }
+        ensures { IfOk result (λ l. (l.live ≡ []) × (l.dead ≡ []) × (l.start ≡ start)) }
+    {
         let mut links = Links::new(alloc);
         let live = links.list()?;
         let dead = links.list()?;
@@ -65,7 +73,7 @@ impl ChangeList {
             entries: Vec::new(alloc),
             order: Vec::new(alloc),
             dead_count: 0,
-            start: 0,
+            start,
         })
     }
 

@@ -9,7 +9,7 @@ use Rattle.room_model.specs.Accepting.{Push, is_taken, entry_of}
 use Rattle.room_model.specs.Messages.{updates}
 use Rattle.room_model.specs.Rooms.{Phase, new, asked, live, ended, gone, Session, Room, is_ended, has_left, new_room, is_full, after_enter, enter, with_session, session_at, unless_left, is_present, removal, close, close_slow, first_slow, without_slow, end_slow, after_entry, after_close, refuse, Replied, Ask, protocol_fault, after_plan, after_connect, after_push, after_unended, after_message_in, after_message, leave, after_leave, Given, pong, updates_between, pong_or, next_in, next_for, after_drain}
 use Rattle.room_model.specs.Closing.{push_of}
-use Rattle.room_model.specs.Reachable.{IsRising, is_over, Reachable, made, entered, received, drained, left}
+use Rattle.room_model.specs.Reachable.{IsRising, is_over, IsBeginning, Reachable, begins, entered, received, drained, left}
 use Rattle.room_model.specs.declared.handled.Handled.{Handled}
 use Rattle.room_model.specs.declared.history.Entry.{Entry}
 use Rattle.room_model.specs.declared.handled.Handled.TheVariants.{Taken, Entered, Pong, Ended}
@@ -284,11 +284,11 @@ push_rises (message.Push client_clock diff presence) push says rising = let same
 push_rises message.Ping push says rising = absurd (cc)
 
 -- what each step keeps holds of all rooms that calls make
-pub everywhere : (schemas : Schemas) (P : Room → Type 0) → ((last : ℕ) → P (new_room last))
+pub everywhere : (schemas : Schemas) (P : Room → Type 0) → ((room : Room) → IsBeginning schemas room → P room)
     → ((o : Option (ℕ × ClientMessage)) → TakenRises o → (room after : Room) → Step schemas o room after → P room → P after) → (room : Room) → Reachable schemas room → P room
-everywhere schemas P begins keeps _ (made last) = begins last
-everywhere schemas P begins keeps _ (entered readonly room after before is) = keeps None tt room after (enter_step schemas room readonly after is) (everywhere schemas P begins keeps room before)
-everywhere schemas P begins keeps _ (received session said room replied before rising is) =
-    keeps (taken_by session said replied.reply) (taken_rises session said replied.reply rising) room replied.room (message_step schemas room session said replied is) (everywhere schemas P begins keeps room before)
-everywhere schemas P begins keeps _ (drained session given room before is) = keeps None tt room _ (drain_step schemas room session given is) (everywhere schemas P begins keeps room before)
-everywhere schemas P begins keeps _ (left session room after before is) = keeps None tt room after (leave_step schemas room session after is) (everywhere schemas P begins keeps room before)
+everywhere schemas P first keeps _ (begins room beginning) = first room beginning
+everywhere schemas P first keeps _ (entered readonly room after before is) = keeps None tt room after (enter_step schemas room readonly after is) (everywhere schemas P first keeps room before)
+everywhere schemas P first keeps _ (received session said room replied before rising is) =
+    keeps (taken_by session said replied.reply) (taken_rises session said replied.reply rising) room replied.room (message_step schemas room session said replied is) (everywhere schemas P first keeps room before)
+everywhere schemas P first keeps _ (drained session given room before is) = keeps None tt room _ (drain_step schemas room session given is) (everywhere schemas P first keeps room before)
+everywhere schemas P first keeps _ (left session room after before is) = keeps None tt room after (leave_step schemas room session after is) (everywhere schemas P first keeps room before)

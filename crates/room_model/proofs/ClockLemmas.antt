@@ -11,6 +11,7 @@ use Rattle.room_model.specs.Rooms.{Phase, new, asked, live, ended, gone, Session
 use Rattle.room_model.specs.Reachable.{Reachable, is_over, IsSentNear, AreSentNear}
 use Rattle.room_model.specs.declared.history.Entry.{Entry}
 use Rattle.room_model.specs.declared.limits.TheConstants.{MOST_TOLD}
+use Rattle.room_model.proofs.BegunLemmas.{beginning_near}
 use Rattle.room_model.proofs.CallLemmas.{got-set, got-added, Moves, stays, asks, answered, updated, closes, Goes, Step, nothing, enters, goes, ends, pushes, pushed_by, step_keeps, everywhere}
 use Rattle.sync_msgs.specs.declared.client_message.ClientMessage.{ClientMessage}
 use Rattle.sync_msgs.specs.declared.end_reason.EndReason.TheVariants.{Slow}
@@ -240,4 +241,4 @@ pub new_near : (last : ℕ) → AreSentNear (new_room last)
 new_near last = λ number s at. absurd (cc)
 
 pub reachable_near : (schemas : Schemas) (room : Room) → Reachable schemas room → AreSentNear room
-reachable_near schemas room h = everywhere schemas AreSentNear new_near (λ o rises r after. step_near schemas o r after) room h
+reachable_near schemas room h = everywhere schemas AreSentNear (beginning_near schemas) (λ o rises r after. step_near schemas o r after) room h

@@ -1,5 +1,5 @@
 -- What the commits of a live session say: at an older schema nothing was accepted.
-use Rattle.std.proofs.Common.{◌≡◌, inl, inr, ℕ, zero, suc, true, false, ◌||◌, cond, List, [], ◌∷◌, ◌++◌, length, slice_get, slice_set, Option, Some, None, refl, sym, ap, subst, ◌∙◌}
+use Rattle.std.proofs.Common.{◌≡◌, inl, inr, ℕ, zero, suc, true, false, ◌||◌, cond, List, [], ◌∷◌, ◌++◌, length, nat_abs, slice_get, slice_set, Option, Some, None, refl, sym, ap, subst, ◌∙◌}
 use Rattle.std.specs.List.{list_all}
 use Rattle.std.specs.Option.{option_and_then}
 use Rattle.field_ops.specs.RecordOps.{RecordOpTree, RecordOps}
@@ -10,7 +10,9 @@ use Rattle.room_model.specs.Histories.{History, records_of}
 use Rattle.room_model.specs.Accepting.{Push, is_fit, is_taken, accept_ops, document_part, presence_part, entry_of, action_of}
 use Rattle.room_model.specs.Acting.{document_ops, IsCommitOf, AllCommit}
 use Rattle.sync_msgs.specs.declared.data_event.Action.TheVariants.{Commit}
-use Rattle.room_model.specs.Reachable.{Reachable, is_over}
+use Rattle.room_model.specs.Reachable.{IsBeginning, anew, loaded, Reachable, is_over}
+use Rattle.room_model.specs.Saves.{begun_to}
+use Rattle.room_model.specs.declared.saved.SavedRoom.{SavedRoom}
 use Rattle.room_model.specs.Rooms.{Phase, new, asked, live, ended, gone, Session, Room, removal, with_session}
 use Rattle.room_model.specs.declared.history.Author.{Author}
 use Rattle.room_model.specs.declared.history.Entry.{Entry}
@@ -23,6 +25,10 @@ use Rattle.room_model.proofs.ClosingLemmas.{set_at_place, set_elsewhere, by_numb
 abbrev NoneBy : ℕ → History → Type 0
 NoneBy number [] = Unit {0}
 NoneBy number (entry ∷ history) = ((author : Author) → entry.author ≡ Some author → author.session ≡ number → ⊥) × NoneBy number history
+
+begun_by_none : (number : ℕ) (saved : SavedRoom) (clock : ℕ) → NoneBy number (begun_to saved clock)
+begun_by_none number saved zero = tt
+begun_by_none number saved (suc clock) = (λ author by. absurd (cc), begun_by_none number saved clock)
 
 action_commits : (plan : Plan) (diff part : RecordOps) → (diff ≡ [] → part ≡ []) → IsCommitOf plan part (action_of plan diff part)
 action_commits [] diff part none = tt
@@ -155,10 +161,14 @@ module _ (schemas : Schemas) where
         (λ author by mine. entry_commits room n s plan push taken author by, before)))
         (λ apart. further k (slice_get room.sessions k) entry room.history (λ author by mine. let same : n ≡ author.session = cc in apart (sym (same ∙ mine))) (h k))
 
+    begun_committed : (room : Room) → IsBeginning schemas room → Committed room
+    begun_committed _ (anew last) number = tt
+    begun_committed _ (loaded last saved fits) number = begun_by_none number saved (nat_abs saved.clock)
+
     pub reachable_commits : (room : Room) → Reachable schemas room → (number : ℕ) (s : Session) (sent : ℕ) (plan : Plan)
         → slice_get room.sessions number ≡ Some s → s.phase ≡ live sent plan → AllCommit schemas number plan room.history
     reachable_commits room reached number s sent plan at is =
-        let all : Committed room = everywhere schemas Committed (λ last number. tt)
+        let all : Committed room = everywhere schemas Committed begun_committed
         (λ o rises. step_keeps Committed set_commits (λ r n here. removal_commits r n) schemas o
         (λ r readonly h number. added_commits number r.history _ refl r.sessions number (h number))
         (λ r n s sent plan said push some says at is taken. pushed_commits r n s sent plan push at is taken))

@@ -12,6 +12,7 @@ use Rattle.room_model.specs.Acting.{AllActing}
 use Rattle.room_model.specs.Naming.{IsNamedBy, AllNamed}
 use Rattle.room_model.specs.Reachable.{Reachable}
 use Rattle.room_model.specs.Rooms.{Session, Room, after_enter}
+use Rattle.room_model.proofs.BegunLemmas.{beginning_acts, beginning_named}
 use Rattle.room_model.proofs.ActingLemmas.{or_left, or_right, all-imp, own_itself, left, right, both, all-with_key, presence_apart, all-accepted, fit_documents, push_acts, removal_acts}
 use Rattle.room_model.proofs.CallLemmas.{member_of, pushed_by, step_keeps, TakenRises, push_rises, everywhere}
 
@@ -19,7 +20,7 @@ use Rattle.room_model.proofs.CallLemmas.{member_of, pushed_by, step_keeps, Taken
 pub reachable_acts : (schemas : Schemas) (room : Room) → AreLawful schemas → Reachable schemas room → AllActing schemas room.history
 reachable_acts schemas room lawful h =
     let P : Room → Type 0 = λ r. AllActing schemas r.history in
-    everywhere schemas P (λ last. tt)
+    everywhere schemas P (λ r beginning. beginning_acts schemas r beginning)
     (λ o rises. step_keeps P (λ r n s t at on all. all) (λ r n is all. (removal_acts schemas lawful r n, all)) schemas o (λ r readonly all. all)
     (λ r n s sent plan said push some says at is taken all.
     let rising = push_rises said push says (subst TakenRises some rises) in
@@ -95,7 +96,7 @@ module _ (schemas : Schemas) where
     pub reachable_names : (room : Room) → Reachable schemas room → AllNamed schemas room.sessions room.history
     reachable_names room h =
         let P : Room → Type 0 = λ r. AllNamed schemas r.sessions r.history in
-        everywhere schemas P (λ last. tt)
+        everywhere schemas P (λ r beginning. beginning_named schemas r beginning)
         (λ o rises. step_keeps P (λ r n s t at on all. carried r.sessions (slice_set r.sessions n t) (λ k u found. found_set r.sessions n k s t u at on.same found) r.history all)
         (λ r n is all. (λ author by. absurd (cc), all)) schemas o
         (λ r readonly all. carried r.sessions (after_enter readonly r).sessions (λ k u found. (u, found_added r.sessions k _ u found, refl)) r.history all)

@@ -2,6 +2,7 @@ pub mod AcceptLemmas
 pub mod HistoryLemmas
 pub mod ActingLemmas
 pub mod CallLemmas
+pub mod BegunLemmas
 pub mod ClockLemmas
 pub mod OwnLemmas
 pub mod EntryLemmas

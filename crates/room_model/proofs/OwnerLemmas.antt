@@ -135,6 +135,3 @@ module _ (schemas : Schemas) where
   step_owned o room after (pushes n s sent plan said push some says at is taken same) h =
       let now : Room = record room { history = pushed_by schemas room n s plan push ∷ room.history } in
       subst P (sym same) (owned_ended (length now.sessions) now (owned_pushed room n s sent plan push at is taken h))
-
-  pub new_owned : (last : ℕ) → P (new_room last)
-  new_owned last id scope there = absurd (differ (sym there))

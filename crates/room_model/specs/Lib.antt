@@ -12,3 +12,4 @@ pub mod Reachable
 pub mod Naming
 pub mod Closing
 pub mod Bases
+pub mod Saves

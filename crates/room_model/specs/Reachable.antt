@@ -1,11 +1,13 @@
 -- Which rooms calls make, where the sent clocks of their sessions lie, and whose presences are in them.
-use Rattle.std.specs.Prelude.{◌≡◌, ℕ, ◌-◌, ◌≤◌, min, List, slice_get, length, Bool, true, false, ◌||◌, Some, is_some}
+use Rattle.std.specs.Prelude.{◌≡◌, ℕ, ◌-◌, ◌≤◌, min, pos, List, slice_get, length, Bool, true, false, ◌||◌, Some, None, is_some}
 use Rattle.rooms_val.specs.Maps.{AreRising, value_at}
 use Rattle.room_model.specs.Schemas.{Schemas, presence_id}
 use Rattle.room_model.specs.Histories.{records_of}
 use Rattle.room_model.specs.Accepting.{pushed_diff}
 use Rattle.room_model.specs.Rooms.{Phase, live, Session, Room, new_room, start, is_ended, has_left, enter, after_message, Replied, after_leave, next_for, Given, after_drain}
+use Rattle.room_model.specs.Saves.{load_fault, begun_room}
 use Rattle.room_model.specs.declared.limits.TheConstants.{MOST_TOLD}
+use Rattle.room_model.specs.declared.saved.SavedRoom.{SavedRoom}
 use Rattle.sync_msgs.specs.declared.client_message.ClientMessage.{ClientMessage}
 use Rattle.sync_msgs.specs.declared.client_message.ClientMessage.TheVariants as message
 
@@ -19,9 +21,14 @@ IsRising (message.Connect request reached protocol versions) = Unit {0}
 IsRising (message.Push client_clock diff presence) = AreRising (pushed_diff diff)
 IsRising message.Ping = Unit {0}
 
--- the rooms that calls make, each from one that calls made before
+-- the rooms with which calls begin: a new one, and one that begins from a saved one, if that can be loaded
+pub data IsBeginning (schemas : Schemas) : Room → Type 0 where
+  anew : (last : ℕ) → IsBeginning schemas (new_room last)
+  loaded : (last : ℕ) (saved : SavedRoom) → load_fault schemas (pos last) saved ≡ None → IsBeginning schemas (begun_room last saved)
+
+-- the rooms that calls make, each from one with which they begin or that they made before
 pub data Reachable (schemas : Schemas) : Room → Type 0 where
-  made : (last : ℕ) → Reachable schemas (new_room last)
+  begins : (room : Room) → IsBeginning schemas room → Reachable schemas room
   entered : (readonly : Bool) (room after : Room) → Reachable schemas room → enter readonly room ≡ Some after → Reachable schemas after
   received : (session : ℕ) (said : ClientMessage) (room : Room) (replied : Replied)
       → Reachable schemas room → IsRising said → after_message schemas room session said ≡ Some replied → Reachable schemas replied.room

@@ -21,7 +21,9 @@ pub mod history;
 pub mod id_list;
 pub mod limits;
 pub mod line;
+pub mod load_fault;
 pub mod rooms;
+pub mod saved;
 
 pub use clip_fault::{ClipFault, PasteFault};
 pub use connection::Connection;
@@ -31,3 +33,5 @@ pub use handled::Handled;
 pub use history::{Author, Entry};
 pub use id_list::IdList;
 pub use line::OutLine;
+pub use load_fault::LoadFault;
+pub use saved::{SavedRecord, SavedRoom, SavedTomb};
