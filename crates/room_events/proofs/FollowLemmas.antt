@@ -11,7 +11,7 @@ use Rattle.room_model.specs.Accepting.{Push, is_taken}
 use Rattle.room_model.specs.Closing.{push_of}
 use Rattle.room_model.specs.Messages.{snapshot, updates}
 use Rattle.room_model.specs.Bases.{IsAnswered, AreAnswered}
-use Rattle.room_model.specs.Reachable.{Reachable, made}
+use Rattle.room_model.specs.Reachable.{anew, Reachable, begins}
 use Rattle.room_model.specs.Replicas.{Pending}
 use Rattle.room_model.specs.Taking.{Replica}
 use Rattle.room_model.specs.Rooms.{Phase, new, asked, live, ended, gone, Session, Room, new_room}
@@ -486,9 +486,9 @@ module _ (schemas : Schemas) (lawful : AreLawful schemas) (last : ℕ) (n : ℕ)
       → (j : ℕ) × At schemas lawful n client is.admits (state_of schemas last events) j (told_up_to (events_of n events)) (replica_of schemas client (events_of n events))
   unfolding Legal state_of
   where_it_is events legal is =
-      let begins : At schemas lawful n client is.admits (new_room last) 0 None (start schemas lawful n client is.admits) =
+      let first : At schemas lawful n client is.admits (new_room last) 0 None (start schemas lawful n client is.admits) =
       record { answered = tt; phase = (refl, refl, refl); waits = λ none. refl; base = λ clock is. absurd (cc) } in
-      follow schemas lawful n client is.admits (new_room last) events 0 None (start schemas lawful n client is.admits) (made last) legal is.asks is.pushes begins
+      follow schemas lawful n client is.admits (new_room last) events 0 None (start schemas lawful n client is.admits) (begins (new_room last) (anew last)) legal is.asks is.pushes first
 
   pub client_follows : (events : List RoomEvent) (clock : ℕ) → Legal schemas last events → Follows schemas client (events_of n events) → told_up_to (events_of n events) ≡ Some (pos clock)
       → replica_of schemas client (events_of n events) ≡ told_replica schemas client n (oldest clock (state_of schemas last events).history)

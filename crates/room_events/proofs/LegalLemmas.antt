@@ -6,7 +6,7 @@ use Rattle.std.proofs.lemmas.List.Sums.{fold-append}
 use Rattle.std.proofs.lemmas.Option.{slice_get_past}
 use Rattle.room_model.specs.Schemas.{Schemas}
 use Rattle.room_model.specs.Rooms.{Session, Room, new_room, is_full, count_here, after_enter, session_at, after_message, leave, next_in, next_for, after_drain}
-use Rattle.room_model.specs.Reachable.{Reachable, made, entered, received, drained, left}
+use Rattle.room_model.specs.Reachable.{anew, Reachable, begins as from_beginning, entered, received, drained, left}
 use Rattle.room_model.specs.declared.limits.TheConstants.{MOST_SESSIONS, MOST_ENTERED}
 use Rattle.room_events.specs.Events.{events_of, number_of, is_enter, is_leave, has_leave, EntersFirst, LeavesLast, count_entered, count_in, is_full_after}
 use Rattle.room_events.specs.Legal.{CanHappen, room_after, Happens, AllHappen, Legal, state_of}
@@ -82,7 +82,7 @@ module _ (schemas : Schemas) where
 
   pub is_reachable : (last : ℕ) (events : List RoomEvent) → Legal schemas last events → Reachable schemas (state_of schemas last events)
   unfolding Legal state_of
-  is_reachable last events legal = all_reached (new_room last) events (made last) legal
+  is_reachable last events legal = all_reached (new_room last) events (from_beginning (new_room last) (anew last)) legal
 
   -- who is in a room after an event
   happens_here : (room : Room) (event : RoomEvent) (after : Room) → Happens schemas room event after → Fits (here room) event × (here after ≡ here_after (here room) event)

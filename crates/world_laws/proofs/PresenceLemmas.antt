@@ -19,18 +19,19 @@ use Rattle.room_model.specs.Schemas.{Schemas, AreLawful, presence_id, is_own}
 use Rattle.room_model.specs.Histories.{History, records_of}
 use Rattle.room_model.specs.Closing.{with_removals, was_open, is_closed, IsClosing, IsPushed, Appends}
 use Rattle.room_model.specs.Naming.{IsNamedBy, AllNamed}
-use Rattle.room_model.specs.Reachable.{is_over, Reachable, made, entered, received, drained, left}
+use Rattle.room_model.specs.Reachable.{is_over, IsBeginning, Reachable, begins, entered, received, drained, left}
 use Rattle.room_model.specs.Rooms.{Phase, new, asked, live, ended, Session, Room, is_full, after_enter, enter, with_session, is_present, removal, after_drain, Replied, after_message, after_leave, Given, next_for}
 use Rattle.room_model.specs.declared.handled.Handled.{Handled}
 use Rattle.room_model.specs.declared.handled.Handled.TheVariants.{Taken, Entered, Pong, Ended}
 use Rattle.room_model.specs.declared.history.Entry.{Entry}
 use Rattle.room_model.specs.declared.limits.TheConstants.{MOST_ENTERED}
+use Rattle.room_model.proofs.BegunLemmas.{nobody_there, nobody_present}
 use Rattle.room_model.proofs.ActingLemmas.{left as left_of, right as right_of, differ, presence_apart, all-imp}
 use Rattle.room_model.proofs.ClosingLemmas.{set_at_place, set_elsewhere, by_number, message_appends, leave_closes}
 use Rattle.room_model.proofs.EntryLemmas.{reachable_names}
 use Rattle.sync_msgs.specs.declared.client_message.ClientMessage.{ClientMessage}
 use Rattle.world_laws.specs.Sessions.{IsLive, ArePresencesLive}
-use Rattle.world_laws.specs.Presences.{AllRemovals, HasSamePresence}
+use Rattle.world_laws.specs.Presences.{AllRemovals, GoesOnByRemovals, HasSamePresence}
 use Rattle.world_laws.proofs.RoomLemmas.{message_receives, Gives, tells_end, answers, pongs, tells, drain_gives}
 use Rattle.world_laws.proofs.PushLemmas.{long-set, long-added}
 use Rattle.world_laws.proofs.SessionLemmas.{message_long, leave_long}
@@ -69,7 +70,7 @@ entered_few readonly room after is =
     subst (λ (r : Room). length r.sessions ≤ MOST_ENTERED) on.1 (subst (λ k. k ≤ MOST_ENTERED) (sym (long-added room.sessions _)) few)
 
 few_entered : (schemas : Schemas) (room : Room) → Reachable schemas room → length room.sessions ≤ MOST_ENTERED
-few_entered schemas _ (made last) = omega arith
+few_entered schemas room (begins _ beginning) = let none = ap length (nobody_there schemas room beginning) in omega arith
 few_entered schemas _ (entered readonly room after before is) = entered_few readonly room after is
 few_entered schemas _ (received session said room replied before rising is) = let h = few_entered schemas room before in let e = message_long schemas room session said replied is in omega arith
 few_entered schemas _ (drained session given room before is) = let h = few_entered schemas room before in let e = long-set room.sessions session given.after in omega arith
@@ -132,42 +133,70 @@ not_open k r is over = elim (slice_get r.sessions k) as (λ o. option_map_or (λ
 
 -- entries without author
 
-removals_later : (before after : Room) → ((k : ℕ) → is_closed before k ≡ true → is_closed after k ≡ true) → (history : History) → AllRemovals before history → AllRemovals after history
-removals_later before after more [] h = tt
-removals_later before after more (entry ∷ history) h = (λ none. (let r = h.0 none in (r.0, r.1, more r.0 r.2)), removals_later before after more history h.1)
+-- a history goes on from a first one by entries that remove what is closed
+abbrev Upon : History → Room → History → Type 0
+Upon first room history = (later : History) × (history ≡ later ++ first) × AllRemovals room later
 
-removals_added : (before after : Room) (ks : List ℕ) (history : History) → list_all (λ k. was_open before k && is_closed after k) ks ≡ true → AllRemovals after history → AllRemovals after (with_removals ks history)
-removals_added before after [] history all h = h
-removals_added before after (k ∷ ks) history all h =
-    removals_added before after ks (removal k ∷ history) (right_of _ _ all) (λ none. (k, refl, right_of _ _ (left_of _ _ all)), h)
+module _ (first : History) where
+  all_later : (before after : Room) → ((k : ℕ) → is_closed before k ≡ true → is_closed after k ≡ true) → (later : History) → AllRemovals before later → AllRemovals after later
+  all_later before after more [] h = tt
+  all_later before after more (entry ∷ later) h = (λ none. (let r = h.0 none in (r.0, r.1, more r.0 r.2)), all_later before after more later h.1)
 
-closing_removals : (before after : Room) (ks : List ℕ) → IsClosing before after ks → AllRemovals after before.history → AllRemovals after after.history
-closing_removals before after ks closing h = subst (AllRemovals after) (sym closing.appended) (removals_added before after ks before.history closing.ends h)
+  removals_later : (before after : Room) → ((k : ℕ) → is_closed before k ≡ true → is_closed after k ≡ true) → (history : History) → Upon first before history → Upon first after history
+  removals_later before after more history h = (h.0, h.1, all_later before after more h.0 h.2)
 
-appended_removals : (schemas : Schemas) (room : Room) (n : ℕ) (said : ClientMessage) (reply : Handled) (after : Room) (ks : List ℕ)
-    → Appends schemas room n said reply after ks → AllRemovals after room.history → AllRemovals after after.history
-appended_removals schemas room n said Taken after ks h all =
-    let entry = h.0 in
-    closing_removals _ after ks h.2 ((λ none. absurd (let some = ap (λ (e : Entry). e.author) h.1.makes in cc)), all)
-appended_removals schemas room n said Entered after ks h all = closing_removals room after ks h all
-appended_removals schemas room n said Pong after ks h all = closing_removals room after ks h all
-appended_removals schemas room n said (Ended reason) after ks h all = closing_removals room after ks h all
+  removals_added : (before after : Room) (ks : List ℕ) (history : History) → list_all (λ k. was_open before k && is_closed after k) ks ≡ true → Upon first after history → Upon first after (with_removals ks history)
+  removals_added before after [] history all h = h
+  removals_added before after (k ∷ ks) history all h =
+      removals_added before after ks (removal k ∷ history) (right_of _ _ all)
+      (removal k ∷ h.0, ap (λ l. removal k ∷ l) h.1, (λ none. (k, refl, right_of _ _ (left_of _ _ all)), h.2))
 
-pub reachable_removals : (schemas : Schemas) (room : Room) → Reachable schemas room → AllRemovals room room.history
-reachable_removals schemas _ (made last) = tt
-reachable_removals schemas _ (entered readonly room after before is) =
-    let next = after_enter readonly room in
-    subst (λ (r : Room). AllRemovals r r.history) (entered_is readonly room after is).1
-    (removals_later room next (λ k h. closed_added room.sessions _ k h) room.history (reachable_removals schemas room before))
-reachable_removals schemas _ (received session said room replied before rising is) =
-    let on = message_appends schemas room session said replied is in
-    appended_removals schemas room session said replied.reply replied.room on.0 on.1
-    (removals_later room replied.room (λ k h. message_closed schemas k room session said replied is h) room.history (reachable_removals schemas room before))
-reachable_removals schemas _ (drained session given room before is) =
-    removals_later room (after_drain room session given) (λ k h. drain_closed schemas k room session given is h) room.history (reachable_removals schemas room before)
-reachable_removals schemas _ (left session room after before is) =
+  closing_removals : (before after : Room) (ks : List ℕ) → IsClosing before after ks → Upon first after before.history → Upon first after after.history
+  closing_removals before after ks closing h = subst (Upon first after) (sym closing.appended) (removals_added before after ks before.history closing.ends h)
+
+  appended_removals : (schemas : Schemas) (room : Room) (n : ℕ) (said : ClientMessage) (reply : Handled) (after : Room) (ks : List ℕ)
+      → Appends schemas room n said reply after ks → Upon first after room.history → Upon first after after.history
+  appended_removals schemas room n said Taken after ks h all =
+      let entry = h.0 in
+      closing_removals _ after ks h.2 (entry ∷ all.0, ap (λ l. entry ∷ l) all.1, ((λ none. absurd (let some = ap (λ (e : Entry). e.author) h.1.makes in cc)), all.2))
+  appended_removals schemas room n said Entered after ks h all = closing_removals room after ks h all
+  appended_removals schemas room n said Pong after ks h all = closing_removals room after ks h all
+  appended_removals schemas room n said (Ended reason) after ks h all = closing_removals room after ks h all
+
+-- the room with which calls began, and how its history goes on
+abbrev Removals : Schemas → Room → Type 0
+Removals schemas room = (first : Room) × IsBeginning schemas first × Upon first.history room room.history
+
+removals_of : (schemas : Schemas) (room : Room) → Reachable schemas room → Removals schemas room
+removals_of schemas _ (begins room beginning) = (room, beginning, ([], refl, tt))
+removals_of schemas _ (entered readonly room after before is) =
+    let h = removals_of schemas room before in
+    let next = after_enter readonly room in (
+      h.0,
+      h.1,
+      subst (λ (r : Room). Upon h.0.history r r.history) (entered_is readonly room after is).1
+          (removals_later h.0.history room next (λ k h. closed_added room.sessions _ k h) room.history h.2),
+    )
+removals_of schemas _ (received session said room replied before rising is) =
+    let h = removals_of schemas room before in
+    let on = message_appends schemas room session said replied is in (
+      h.0,
+      h.1,
+      appended_removals h.0.history schemas room session said replied.reply replied.room on.0 on.1
+          (removals_later h.0.history room replied.room (λ k h. message_closed schemas k room session said replied is h) room.history h.2),
+    )
+removals_of schemas _ (drained session given room before is) =
+    let h = removals_of schemas room before in
+    (h.0, h.1, removals_later h.0.history room (after_drain room session given) (λ k h. drain_closed schemas k room session given is h) room.history h.2)
+removals_of schemas _ (left session room after before is) =
+    let h = removals_of schemas room before in
     let on = leave_closes schemas room session after is in
-    closing_removals room after on.0 on.1 (removals_later room after (λ k h. leave_closed k room after session is h) room.history (reachable_removals schemas room before))
+    (h.0, h.1, closing_removals h.0.history room after on.0 on.1 (removals_later h.0.history room after (λ k h. leave_closed k room after session is h) room.history h.2))
+
+pub reachable_removals : (schemas : Schemas) (room : Room) → Reachable schemas room → GoesOnByRemovals schemas room
+reachable_removals schemas room reached =
+    let h = removals_of schemas room reached in
+    record { first = h.0; beginning = h.1; later = h.2.0; appended = h.2.1; removals = h.2.2 }
 
 -- who was live is live or closed
 
@@ -324,7 +353,7 @@ module _ (schemas : Schemas) (lawful : AreLawful schemas) where
   number_small room n s reached at = let few = few_entered schemas room reached in let less = slice_get_within room.sessions n s at in omega arith
 
   only_live : (room : Room) → Reachable schemas room → OnlyLive room
-  only_live _ (made last) k less present = absurd (differ (sym present))
+  only_live room (begins _ beginning) k less present = absurd (nobody_present schemas lawful room beginning k present)
   only_live _ (entered readonly room after before is) k less present =
       let on = entered_is readonly room after is in
       let old : LiveAt k room = only_live room before k less (subst (λ (r : Room). is_present k r ≡ true) (sym on.1) present) in

@@ -1,9 +1,10 @@
 -- Who changes presences, and what entries without author are.
 use Rattle.std.specs.Prelude.{◌≡◌, ℕ, [], ◌∷◌, ◌++◌, true, false, None}
 use Rattle.rooms_val.specs.Maps.{value_at}
-use Rattle.room_model.specs.Schemas.{presence_id}
+use Rattle.room_model.specs.Schemas.{Schemas, presence_id}
 use Rattle.room_model.specs.Histories.{History, records_of}
 use Rattle.room_model.specs.Closing.{is_closed}
+use Rattle.room_model.specs.Reachable.{IsBeginning}
 use Rattle.room_model.specs.Rooms.{Room, removal}
 
 -- each entry without author removes the presence of a session that is ended in a room, or has left it
@@ -11,6 +12,15 @@ abbrev pub AllRemovals : Room → History → Type 0
 AllRemovals room [] = Unit {0}
 AllRemovals room (entry ∷ history) =
     (entry.author ≡ None → (number : ℕ) × (entry ≡ removal number) × (is_closed room number ≡ true)) × AllRemovals room history
+
+-- the entries of a room go on from those with which it began: each later one that has no author removes the presence of a session that
+-- is ended, or has left
+pub record GoesOnByRemovals (schemas : Schemas) (room : Room) : Type 0 where
+  pub first : Room
+  pub beginning : IsBeginning schemas first
+  pub later : History
+  pub appended : room.history ≡ later ++ first.history
+  pub removals : AllRemovals room later
 
 -- the presence of a session is in both rooms what it is in the other
 abbrev pub HasSamePresence : ℕ → Room → Room → Type 0

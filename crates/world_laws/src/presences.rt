@@ -10,7 +10,7 @@ ghost use Rattle.room_model.specs.declared.event.Event.{Event};
 ghost use Rattle.sync_msgs.specs.declared.client_message.ClientMessage.{ClientMessage};
 ghost use Rattle.world_laws.specs.Reachable.{ReachableWorld};
 ghost use Rattle.world_laws.specs.Sessions.{ArePresencesLive};
-ghost use Rattle.world_laws.specs.Presences.{AllRemovals, GoesOnByClosing, HasSamePresence};
+ghost use Rattle.world_laws.specs.Presences.{GoesOnByRemovals, GoesOnByClosing, HasSamePresence};
 
 /// The author of an entry has entered, and the entry names ids of the document and its author's
 /// presence alone; that of a read-only session names no id of the document.
@@ -20,11 +20,12 @@ pub fn entries_name_their_own<F: Drop>()
         → AllNamed schemas.room world.room.sessions world.room.history }
 {}
 
-/// An entry without author removes the presence of a session that was ended or has left.
+/// An entry without author is one of those with which the room began, or removes the presence of a
+/// session that was ended or has left.
 pub fn entries_without_author_remove<F: Drop>()
     ensures { (schemas : WorldSchemas F) (world : World)
         → AreLawfulTogether schemas → ReachableWorld schemas world
-        → AllRemovals world.room world.room.history }
+        → GoesOnByRemovals schemas.room world.room }
 {}
 
 /// An event makes the room's history go on by entries of which each without author removes the
