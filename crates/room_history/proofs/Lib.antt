@@ -9,3 +9,13 @@ pub mod UsableLemmas
 pub mod ListedLemmas
 pub mod AppendLemmas
 pub mod SinceLemmas
+pub mod BegunLemmas
+pub mod NextLemmas
+pub mod GoneLemmas
+pub mod TreeLemmas
+pub mod FitLemmas
+pub mod StandLemmas
+pub mod NewMarkLemmas
+pub mod DiffLemmas
+pub mod CheckLemmas
+pub mod SavingLemmas

@@ -22,7 +22,7 @@ both_right : (a b : Bool) → a && b ≡ true → b ≡ true
 both_right true b is = is
 both_right false b is = absurd (cc)
 
-without-changes : (live : Bool) (id : List ℕ) (ps : List (List ℕ × ℕ)) → without_id id (map (change_at live) ps) ≡ map (change_at live) (filter (λ p. not (ties p.0 id)) ps)
+pub without-changes : (live : Bool) (id : List ℕ) (ps : List (List ℕ × ℕ)) → without_id id (map (change_at live) ps) ≡ map (change_at live) (filter (λ p. not (ties p.0 id)) ps)
 without-changes live id ps = filter-map (λ change. not (ties change.id id)) (change_at live) ps
 
 module _ (history : History) (start : ℕ) (below : start < suc (length history)) where

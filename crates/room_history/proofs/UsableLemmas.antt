@@ -27,7 +27,7 @@ each-all : {X : Type 0} (P : X → Type 0) (xs : List X) → Each P xs → All P
 each-all P [] h = λ k d low. absurd (omega arith)
 each-all P (x ∷ xs) h = All-cons P x xs h.0 (each-all P xs h.1)
 
-each-map : {X Y : Type 0} (P : Y → Type 0) (f : X → Y) (xs : List X) → Each (λ x. P (f x)) xs → Each P (map f xs)
+pub each-map : {X Y : Type 0} (P : Y → Type 0) (f : X → Y) (xs : List X) → Each (λ x. P (f x)) xs → Each P (map f xs)
 each-map P f [] h = tt
 each-map P f (x ∷ xs) h = (h.0, each-map P f xs h.1)
 

@@ -2,6 +2,7 @@
 ghost use Rattle.std.specs.Prelude.{◌≡◌, ℕ, List, ◌<ℤ◌, ◌≤ℤ◌, ◌^◌, ℤ, pos, [], ◌∷◌, ◌+◌, ◌≤◌, IfOk, IfSome, OnOk, OnErr, is_some, length, map, filter, IsPermutation, IsSortedBy, option_map, if◌then◌else◌};
 ghost use Rattle.rooms_val.specs.Maps.{value_at, keys_of};
 ghost use Rattle.rooms_val.specs.View.{data_of};
+ghost use Rattle.schema_core.specs.Admits.{is_document};
 ghost use Rattle.schema_core.specs.SchemaOf.{schema_tree};
 ghost use Rattle.change_list.specs.Changes.{listed, is_below, AreSince};
 ghost use Rattle.room_model.specs.Schemas.{presence_id};
@@ -12,6 +13,7 @@ ghost use Rattle.room_schemas.specs.Decided.{decided};
 ghost use Rattle.room_accept.specs.Pushes.{member_of, push_of};
 ghost use Rattle.room_accept.specs.Suiting.{HasPresences, Suits};
 ghost use Rattle.room_history.specs.Keeps.{Keeps, KeepsSome};
+ghost use Rattle.room_history.specs.Saving.{IsSavedOf};
 
 use crate::kept::Kept;
 use crate::recent_entry::RecentEntry;
@@ -20,6 +22,7 @@ use change_list::{Change, ChangeList};
 use circular_buffer::HeapCircularBuffer;
 use doc_store::{DocStore, MapDoc};
 use room_accept::{Accepted, DocumentSize, Member, Push, accept};
+use room_model::SavedRoom;
 use room_model::limits::MOST_TOLD;
 use rooms_val::{Mem, Steps, Text, Val};
 use schema_core::Schema;
@@ -31,7 +34,7 @@ use std::sync::ledger::Ledger;
 /// the history.
 #[derive(Drop)]
 pub struct RoomHistory {
-    kept: Kept,
+    pub(crate) kept: Kept,
     ghost sound: { ∥ KeepsSome kept ∥₁ },
     ghost presence: { HasPresences (schema_tree kept.schema) },
 }
@@ -123,6 +126,17 @@ impl RoomHistory {
         ensures ticked { IfOk result (λ found. steps.new ≡ steps.old + (length found.items + 1)) }
     {
         self.kept.changes.since(alloc, clock, steps)
+    }
+
+    /// What is saved of the history: the clock, the records of the document, and the removed ids of
+    /// the document that are remembered. The presence of sessions isn't saved. It copies the
+    /// records, and costs a logarithm for each id that is there or remembered.
+    pub fn saved<L: Ledger>(&self, alloc: Global, steps: &mut Steps<L>) -> Mem<SavedRoom>
+        ensures { IfOk result (λ saved. (first : ℕ) (history : History)
+            → Keeps first history self.now.kept
+            → IsSavedOf (is_document (schema_tree self.now.kept.schema)) first history saved) }
+    {
+        self.kept.saved(alloc, steps)
     }
 
     /// What is accepted of a push of a session. `None` exactly where the push is refused. Nothing
