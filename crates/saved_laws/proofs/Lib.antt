@@ -1,0 +1,4 @@
+pub mod KeptLemmas
+pub mod SavedLemmas
+pub mod LoadLemmas
+pub mod AnswerLemmas
