@@ -10,3 +10,4 @@ pub mod PushLemmas
 pub mod ChosenLemmas
 pub mod SentLemmas
 pub mod PresentLemmas
+pub mod BegunLemmas

@@ -1,5 +1,5 @@
 -- Which sessions of a room a table of sessions stands for.
-use Rattle.std.specs.Prelude.{◌≡◌, ℕ, ◌≤◌, ℤ, pos, nat_abs, int_lt, nat_le, nat_lt, ◌+◌, ◌&&◌, List, ◌++◌, ◌∷◌, length, slice_get, count_by, Bool, true, false, not, if◌then◌else◌, Option, Some, None, ◌<◌, [], vec_len, vec_capacity}
+use Rattle.std.specs.Prelude.{◌≡◌, ℕ, ◌≤◌, ℤ, pos, nat_abs, int_lt, nat_le, nat_lt, ◌+◌, ◌&&◌, List, length, slice_get, Bool, true, false, if◌then◌else◌, Option, Some, None, ◌<◌, vec_len, vec_capacity}
 use Rattle.slab.specs.Slab.{get, slab_len, with_value}
 use Rattle.room_model.specs.Histories.{History, above}
 use Rattle.room_model.specs.Rooms as model

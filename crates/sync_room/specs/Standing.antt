@@ -1,5 +1,5 @@
 -- Which room of the definitions a room stands for.
-use Rattle.std.specs.Prelude.{◌≡◌, ℕ, ℤ, pos, Bool, true, false, Option, Some, None, Result, Ok, Err}
+use Rattle.std.specs.Prelude.{◌≡◌, ℕ, pos, false, Option, Some, None, Result, Ok, Err}
 use Rattle.slab.specs.Slab.{get}
 use Rattle.schema_core.specs.SchemaOf.{schema_tree}
 use Rattle.schema_core.specs.Tree.{SchemaTree}

@@ -19,4 +19,5 @@ mod sessions;
 
 pub use enter::EnterFault;
 pub use room::Room;
+pub use room_model::{LoadFault, SavedRecord, SavedRoom, SavedTomb};
 pub use session::SessionId;

@@ -1,5 +1,5 @@
 //! A room, and what it tells of itself.
-ghost use Rattle.std.specs.Prelude.{◌≡◌, ◌≤ℤ◌, ℕ, pos, IfOk, OnOk, length, option_map, filter, if◌then◌else◌};
+ghost use Rattle.std.specs.Prelude.{◌≡◌, ◌≢◌, ◌≤ℤ◌, ℕ, pos, Some, None, IfOk, IfErr, OnOk, length, option_map, filter, if◌then◌else◌};
 ghost use Rattle.rooms_val.specs.Data.{map, members_of};
 ghost use Rattle.rooms_val.specs.Maps.{AreRising, added, value_at};
 ghost use Rattle.sync_room.specs.Scopes.{is_of_part};
@@ -10,15 +10,20 @@ ghost use Rattle.room_model.specs.Histories.{records_of};
 ghost use Rattle.room_model.specs.Rooms as model;
 ghost use Rattle.room_model.specs.Schemas.{records_with};
 ghost use Rattle.room_model.specs.declared.limits.TheConstants.{LAST_CLOCK};
-ghost use Rattle.room_schemas.specs.Decided.{is_presence};
+ghost use Rattle.room_model.specs.Saves.{begun_room, load_fault};
+ghost use Rattle.room_model.specs.declared.load_fault.LoadFault.TheVariants.{OutOfMemory};
+ghost use Rattle.room_history.specs.Saving.{IsSavedOf};
+ghost use Rattle.room_schemas.specs.Decided.{decided, is_presence};
 ghost use Rattle.room_accept.specs.Suiting.{HasPresences};
 
 use crate::sessions::Sessions;
 use room_history::RoomHistory;
+use room_model::{LoadFault, SavedRoom};
 use room_schemas::is_presence;
-use rooms_val::{Fields, Mem, Text, Val};
+use rooms_val::{Fields, Mem, Steps, Text, Val};
 use schema_core::Schema;
 use std::alloc::Global;
+use std::sync::ledger::Ledger;
 
 /// A room that one thread calls. It keeps its records, what changed since which clock, its last
 /// entries, and the sessions that are in it, but no list of entries.
@@ -50,6 +55,58 @@ impl Room {
             history: RoomHistory::new(alloc, schema)?,
             sessions: Sessions::new(alloc),
         })
+    }
+
+    /// A room that begins from what was saved, which nobody entered: its history has an entry for
+    /// each clock, which put the saved records of that clock and removed the ids of that clock. The
+    /// room refuses pushes from the clock `last` on, which is 1 to 2^53 - 65. To its schema the ids of
+    /// sessions' presence are presence. It costs what `RoomHistory::load` does.
+    ///
+    /// # Errors
+    ///
+    /// [`LoadFault`] names each with its cause. Of several causes the first of its order is named, or
+    /// that memory was refused.
+    pub fn load<L: Ledger>(
+        alloc: Global,
+        schema: Schema,
+        last: i64,
+        saved: SavedRoom,
+        steps: &mut Steps<L>,
+    ) -> Result<Room, LoadFault>
+        requires presence { HasPresences (schema_tree schema) }
+        requires low { pos 1 ≤ℤ last }
+        requires high { last ≤ℤ pos LAST_CLOCK }
+        ensures fault { IfErr result (λ e. e ≢ OutOfMemory
+            → load_fault (decided (schema_tree schema)) last saved ≡ Some e) }
+        ensures fits { IfOk result (λ room.
+            load_fault (decided (schema_tree schema)) last saved ≡ None) }
+        ensures stands { IfOk result (λ room. (bound : ℕ) → last ≡ pos bound
+            → Stands (begun_room bound saved) room) }
+        ensures schema { IfOk result (λ room. tree_of room ≡ schema_tree schema) }
+    {
+        Ok(Room {
+            last,
+            history: RoomHistory::load(alloc, schema, last, saved, steps)?,
+            sessions: Sessions::new(alloc),
+        })
+    }
+
+    /// What is saved of the room: its clocks, the records of its document by rising id, with the clocks
+    /// of their last entries, and the removed ids of the document that it remembers, by rising id;
+    /// presence isn't saved. It costs a copy of the document, whose values are shared, and sorting the
+    /// ids that are there or remembered as removed.
+    pub fn saved<L: Ledger>(&self, alloc: Global, steps: &mut Steps<L>) -> Mem<SavedRoom>
+        ensures { IfOk result (λ saved. (state : model.Room) → Stands state self.now
+            → IsSavedOf (is_document (tree_of self.now)) state.first state.history saved) }
+    {
+        self.history.saved(alloc, steps)
+    }
+
+    /// The schema, by which is decided what the room takes.
+    pub fn schema(&self) -> &Schema
+        ensures { schema_tree result.now ≡ tree_of self.now }
+    {
+        self.history.schema()
     }
 
     /// The clock: how many entries there were.
