@@ -1,0 +1,9 @@
+pub mod RefusalLemmas
+pub mod PlaceLemmas
+pub mod DocumentLemmas
+pub mod TombLemmas
+pub mod IdLemmas
+pub mod SeenLemmas
+pub mod LineLemmas
+pub mod RaiseLemmas
+pub mod PlanLemmas
