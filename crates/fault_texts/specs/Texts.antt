@@ -18,6 +18,12 @@ use Rattle.room_model.specs.declared.fault.ConnectFault.{ConnectFault}
 use Rattle.room_model.specs.declared.fault.ConnectFault.TheVariants as connect
 use Rattle.room_model.specs.declared.fault.StepFault.{StepFault}
 use Rattle.room_model.specs.declared.fault.StepFault.TheVariants as step
+use Rattle.room_model.specs.declared.load_fault.LoadFault.{LoadFault}
+use Rattle.room_model.specs.declared.load_fault.LoadFault.TheVariants as load
+use Rattle.migrate_seq.specs.declared.fault.PlanFault.{PlanFault}
+use Rattle.migrate_seq.specs.declared.fault.PlanFault.TheVariants as plan
+use Rattle.room_snapshot.specs.declared.fault.SnapFault.{SnapFault}
+use Rattle.room_snapshot.specs.declared.fault.SnapFault.TheVariants as snap
 use Rattle.rec_format.specs.Outs.{reason_text}
 use Rattle.rec_format.specs.declared.fault.LineFault.{LineFault}
 use Rattle.rec_format.specs.declared.fault.LineFault.TheVariants as of_line
@@ -121,3 +127,27 @@ step_fault_text (step.Clip fault) = clip_fault_text fault
 step_fault_text step.NoClip = Some (codes "NoClip")
 step_fault_text (step.Paste fault) = paste_fault_text fault
 step_fault_text step.OutOfMemory = None
+
+-- the text of the fault of a line that is no saved room's; that of its value has the value's
+abbrev pub snap_fault_text : SnapFault → Option (List ℕ)
+snap_fault_text snap.LineTooLong = Some (codes "LineTooLong")
+snap_fault_text (snap.Val fault) = val_fault_text fault
+snap_fault_text snap.Shape = Some (codes "Shape")
+snap_fault_text snap.OutOfMemory = None
+
+-- why there is no plan: with the sequence at fault
+abbrev pub plan_fault_text : PlanFault → Option (List ℕ)
+plan_fault_text (plan.TooNew name) = Some (with_word (codes "TooNew") name)
+plan_fault_text (plan.UnknownSequence name) = Some (with_word (codes "UnknownSequence") name)
+plan_fault_text plan.OutOfMemory = None
+
+-- the text of a record or a removed id that is refused
+abbrev pub bad_record_text : List ℕ → List ℕ
+bad_record_text id = with_word (codes "BadRecord") id
+
+-- why no room begins from a saved one
+abbrev pub load_fault_text : LoadFault → Option (List ℕ)
+load_fault_text load.Clocks = Some (codes "Clocks")
+load_fault_text (load.BadRecord id) = Some (bad_record_text id)
+load_fault_text load.TooLarge = Some (codes "TooLarge")
+load_fault_text load.OutOfMemory = None

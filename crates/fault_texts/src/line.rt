@@ -26,7 +26,7 @@ pub fn line_fault_text(alloc: Global, fault: LineFault) -> Mem<Text>
 }
 
 // The name of a value's fault.
-fn val_fault_text(alloc: Global, fault: ValFault) -> Mem<Text>
+pub(crate) fn val_fault_text(alloc: Global, fault: ValFault) -> Mem<Text>
     ensures { IfOk result (λ text. val_fault_text fault ≡ Some text) }
 {
     match fault {

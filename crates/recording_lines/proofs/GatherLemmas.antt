@@ -2,7 +2,7 @@
 use Rattle.std.proofs.Common.{◌≡◌, ℕ, ◌<◌, ◌≤◌, ◌+◌, ◌-◌, Bool, true, false, List, [], ◌∷◌, ◌++◌, length, take, drop, ap, sym, ◌∙◌, append_assoc, append-nil, length-append, arith}
 use Rattle.std.proofs.lemmas.List.{drop-take, drop-drop}
 use Rattle.std.proofs.Math.Seq.{drop-append_seam}
-use Rattle.recording_lines.specs.Lines.{longest_line, newline, has_newline, IsFirstPiece}
+use Rattle.recording_lines.specs.Lines.{newline, has_newline, IsFirstPiece}
 use Rattle.recording_lines.specs.Reading.{Reading, held}
 use Rattle.recording_lines.specs.Gathering.{HoldsTooLong}
 use Rattle.recording_lines.proofs.LinesLemmas.{has_newline-append}
@@ -28,7 +28,7 @@ IsFirstPiece-rest bytes piece true first = (newline ∷ first.1.0, first.1.1)
 IsFirstPiece-rest bytes piece false first = ([], first.1 ∙ sym (append-nil piece))
 
 pub holds_too_long : (now : Reading) (line bytes piece : List ℕ) (is_whole : Bool) → held now ≡ line ++ bytes → has_newline line ≡ false → IsFirstPiece bytes piece is_whole
-    → longest_line < length line + length piece → HoldsTooLong now
+    → now.longest < length line + length piece → HoldsTooLong now
 holds_too_long now line bytes piece is_whole holds plain first long =
     let rest = IsFirstPiece-rest bytes piece is_whole first in (
       line ++ piece,

@@ -8,7 +8,7 @@ use Rattle.std.proofs.lemmas.Bool.{ltb-true, lt-ltb, eqb-true}
 use Rattle.std.proofs.Math.Bool.{or-true, and-false}
 use Rattle.std.proofs.lemmas.Bool.Decides.{nat_tests}
 use Rattle.std.proofs.Math.Seq.{take-append-add, take-append_seam}
-use Rattle.recording_lines.specs.Lines.{cut, with_front, lines_of, lines_left, last_line, is_last_line, longest_line, newline, has_newline, IsFirstPiece}
+use Rattle.recording_lines.specs.Lines.{cut, with_front, lines_of, lines_left, last_line, is_last_line, newline, has_newline, IsFirstPiece}
 use Rattle.recording_lines.specs.Reading.{BeginsTooLong}
 
 -- neither is true where one or the other isn't
@@ -59,18 +59,18 @@ cut-Reaches (c ∷ cs) rest plain =
     let parts = neither (c == newline) (has_newline cs) plain in
     rw parts.0 (with_front-Reaches c (length cs) (cut (cs ++ rest)).0 (cut (cs ++ rest)).1 (cut-Reaches cs rest parts.1))
 
-last_line-long : (whole : Bool) (piece : List ℕ) → longest_line < length piece → last_line whole piece ≡ piece ∷ []
-last_line-long whole piece long =
+last_line-long : (longest : ℕ) (whole : Bool) (piece : List ℕ) → longest < length piece → last_line longest whole piece ≡ piece ∷ []
+last_line-long longest whole piece long =
     let some : nat_lt 0 (length piece) ≡ true = lt-ltb 0 (length piece) (omega arith) in
-    let past : nat_lt longest_line (length piece) ≡ true = lt-ltb longest_line (length piece) long in
-    let test : is_last_line whole piece ≡ true = (λ i. some i && (whole || past i)) ∙ or-true whole in
+    let past : nat_lt longest (length piece) ≡ true = lt-ltb longest (length piece) long in
+    let test : is_last_line longest whole piece ≡ true = (λ i. some i && (whole || past i)) ∙ or-true whole in
     ap (λ b. if b then piece ∷ [] else []) test
 
-BeginsTooLong-Reaches : (whole : Bool) (n : ℕ) (lines : List (List ℕ)) (rest : List ℕ) → longest_line < n → Reaches n lines rest → BeginsTooLong (lines ++ last_line whole rest)
-BeginsTooLong-Reaches whole n [] rest long reaches =
-    let past : longest_line < length rest = omega arith in
-    subst BeginsTooLong (sym (last_line-long whole rest past)) past
-BeginsTooLong-Reaches whole n (line ∷ lines) rest long reaches = omega arith
+BeginsTooLong-Reaches : (longest : ℕ) (whole : Bool) (n : ℕ) (lines : List (List ℕ)) (rest : List ℕ) → longest < n → Reaches n lines rest → BeginsTooLong longest (lines ++ last_line longest whole rest)
+BeginsTooLong-Reaches longest whole n [] rest long reaches =
+    let past : longest < length rest = omega arith in
+    subst (BeginsTooLong longest) (sym (last_line-long longest whole rest past)) past
+BeginsTooLong-Reaches longest whole n (line ∷ lines) rest long reaches = omega arith
 
 -- ---- what is left of a recording
 
@@ -82,46 +82,48 @@ pub whole-line : (line rest : List ℕ) (b : ℕ) → nat_lt (length (line ++ ne
 whole-line line rest b = nat_lt-shifted (length line + 1) (length rest) b _ _ (omega (arith, length-append line (newline ∷ rest))) (omega arith)
 
 -- a line is the first, and the others are the lines of what follows it
-pub lines_left-line : (line rest : List ℕ) (b : ℕ) → has_newline line ≡ false → lines_left (length line + suc b) (line ++ newline ∷ rest) ≡ line ∷ lines_left b rest
-lines_left-line line rest b plain =
-    (λ i. lines_of (whole-line line rest b i) (take-append-add line (newline ∷ rest) (suc b) i))
-    ∙ ap (λ p. p.0 ++ last_line (nat_lt (length rest) b) p.1) (cut-line line (take b rest) plain)
+pub lines_left-line : (longest : ℕ) (line rest : List ℕ) (b : ℕ) → has_newline line ≡ false
+    → lines_left longest (length line + suc b) (line ++ newline ∷ rest) ≡ line ∷ lines_left longest b rest
+lines_left-line longest line rest b plain =
+    (λ i. lines_of longest (whole-line line rest b i) (take-append-add line (newline ∷ rest) (suc b) i))
+    ∙ ap (λ p. p.0 ++ last_line longest (nat_lt (length rest) b) p.1) (cut-line line (take b rest) plain)
 
 -- a piece without newline that is longer than a line may be begins a line that is too long
-pub lines_left-long : (piece rest : List ℕ) (b : ℕ) → has_newline piece ≡ false → longest_line < length piece → BeginsTooLong (lines_left (length piece + b) (piece ++ rest))
-lines_left-long piece rest b plain long =
+pub lines_left-long : (longest : ℕ) (piece rest : List ℕ) (b : ℕ) → has_newline piece ≡ false → longest < length piece
+    → BeginsTooLong longest (lines_left longest (length piece + b) (piece ++ rest))
+lines_left-long longest piece rest b plain long =
     let whole = nat_lt (length (piece ++ rest)) (length piece + b) in
-    subst (λ bytes. BeginsTooLong (lines_of whole bytes)) (sym (take-append-add piece rest b))
-    (BeginsTooLong-Reaches whole (length piece) (cut (piece ++ take b rest)).0 (cut (piece ++ take b rest)).1 long (cut-Reaches piece (take b rest) plain))
+    subst (λ bytes. BeginsTooLong longest (lines_of longest whole bytes)) (sym (take-append-add piece rest b))
+    (BeginsTooLong-Reaches longest whole (length piece) (cut (piece ++ take b rest)).0 (cut (piece ++ take b rest)).1 long (cut-Reaches piece (take b rest) plain))
 
 -- a piece without newline of which all was looked at, and which is no line yet
-pub lines_left-used : (piece rest : List ℕ) → has_newline piece ≡ false → length piece ≤ longest_line
-    → (lines_left (length piece) (piece ++ rest) ≡ []) × (nat_lt (length (piece ++ rest)) (length piece) ≡ false)
-lines_left-used piece rest plain short =
+pub lines_left-used : (longest : ℕ) (piece rest : List ℕ) → has_newline piece ≡ false → length piece ≤ longest
+    → (lines_left longest (length piece) (piece ++ rest) ≡ []) × (nat_lt (length (piece ++ rest)) (length piece) ≡ false)
+lines_left-used longest piece rest plain short =
     let past : nat_lt (length (piece ++ rest)) (length piece) ≡ false = not_below _ _ (omega (arith, length-append piece rest)) in
-    let within : nat_lt longest_line (length piece) ≡ false = not_below longest_line (length piece) short in
-    let test : is_last_line false piece ≡ false = ap (λ b. nat_lt 0 (length piece) && b) within ∙ and-false (nat_lt 0 (length piece)) in (
-      (λ i. lines_of (past i) (take-append_seam piece rest i))
-          ∙ ap (λ p. p.0 ++ last_line false p.1) (cut-plain piece plain)
+    let within : nat_lt longest (length piece) ≡ false = not_below longest (length piece) short in
+    let test : is_last_line longest false piece ≡ false = ap (λ b. nat_lt 0 (length piece) && b) within ∙ and-false (nat_lt 0 (length piece)) in (
+      (λ i. lines_of longest (past i) (take-append_seam piece rest i))
+          ∙ ap (λ p. p.0 ++ last_line longest false p.1) (cut-plain piece plain)
           ∙ ap (λ b. if b then piece ∷ [] else []) test,
       past,
     )
 
 -- a last piece without newline that has a byte, of a recording that is whole
-pub lines_left-last : (piece : List ℕ) (b : ℕ) → has_newline piece ≡ false → 0 < length piece → 0 < b
-    → (lines_left (length piece + b) piece ≡ piece ∷ []) × (nat_lt (length piece) (length piece + b) ≡ true)
-lines_left-last piece b plain some more =
+pub lines_left-last : (longest : ℕ) (piece : List ℕ) (b : ℕ) → has_newline piece ≡ false → 0 < length piece → 0 < b
+    → (lines_left longest (length piece + b) piece ≡ piece ∷ []) × (nat_lt (length piece) (length piece + b) ≡ true)
+lines_left-last longest piece b plain some more =
     let whole : nat_lt (length piece) (length piece + b) ≡ true = lt-ltb _ _ (omega arith) in
-    let test : is_last_line true piece ≡ true = ap (λ t. t && true) (lt-ltb 0 (length piece) some) in (
-      (λ i. lines_of (whole i) (take_all (length piece + b) piece (omega arith) i))
-          ∙ ap (λ p. p.0 ++ last_line true p.1) (cut-plain piece plain)
+    let test : is_last_line longest true piece ≡ true = ap (λ t. t && true) (lt-ltb 0 (length piece) some) in (
+      (λ i. lines_of longest (whole i) (take_all (length piece + b) piece (omega arith) i))
+          ∙ ap (λ p. p.0 ++ last_line longest true p.1) (cut-plain piece plain)
           ∙ ap (λ t. if t then piece ∷ [] else []) test,
       whole,
     )
 
 -- nothing has no line
-pub lines_left-nil : (b : ℕ) → lines_left b [] ≡ []
-lines_left-nil b = ap (lines_of (nat_lt 0 b)) (take_all b [] (omega arith))
+pub lines_left-nil : (longest b : ℕ) → lines_left longest b [] ≡ []
+lines_left-nil longest b = ap (lines_of longest (nat_lt 0 b)) (take_all b [] (omega arith))
 
 -- ---- where the first newline stands
 

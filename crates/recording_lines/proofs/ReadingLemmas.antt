@@ -4,7 +4,7 @@ use Rattle.std.proofs.Common.{◌≡◌, ℕ, suc, ◌<◌, ◌≤◌, ◌+◌, 
 use Rattle.std.specs.Io.KnownBytes.{Consumes, Keeps, IsAtEnd, prepend_known}
 use Rattle.std.proofs.lemmas.Bool.{lt-ltb}
 use Rattle.std.proofs.KnownBytes.{Consumes-nil, Consumes-trans, Consumes-kept, prepend_known-nil}
-use Rattle.recording_lines.specs.Lines.{lines_left, longest_line, newline, has_newline}
+use Rattle.recording_lines.specs.Lines.{lines_left, newline, has_newline}
 use Rattle.recording_lines.specs.Reading.{Reading, held, budget, to_come, LosesLine, BeginsTooLong, TakesUnread}
 use Rattle.recording_lines.proofs.LinesLemmas.{lines_left-line, whole-line, lines_left-long, lines_left-used, lines_left-last, lines_left-nil}
 
@@ -16,68 +16,68 @@ held-open r is = ap (λ b. (if b then r.line else []) ++ r.buffered) is
 pub held-closed : (r : Reading) → r.is_open ≡ false → held r ≡ r.buffered
 held-closed r is = ap (λ b. (if b then r.line else []) ++ r.buffered) is
 
--- ---- what was to come, where it is told; so many bytes of it might be looked at, and now it is what is held and what
--- the source has left
+-- ---- what was to come, where it is told; a line may have `longest` bytes, so many bytes of what was to come might be looked
+-- at, and now it is what is held and what the source has left
 
 -- it begins with a line
-pub loses_line : (told : Option (List ℕ)) (most : ℕ) (held line rest : List ℕ) (unread : ℕ) (left : Option (List ℕ))
+pub loses_line : (longest : ℕ) (told : Option (List ℕ)) (most : ℕ) (held line rest : List ℕ) (unread : ℕ) (left : Option (List ℕ))
     → Keeps told (prepend_known held left) → length held + unread ≡ most → held ≡ line ++ newline ∷ rest → has_newline line ≡ false
-    → LosesLine most told (length rest + unread) (prepend_known rest left) line
-loses_line None most held line rest unread left keeps budget is plain = tt
-loses_line (Some bytes) most held line rest unread None keeps budget is plain = absurd keeps
-loses_line (Some bytes) most held line rest unread (Some more) keeps budget is plain =
+    → LosesLine longest most told (length rest + unread) (prepend_known rest left) line
+loses_line longest None most held line rest unread left keeps budget is plain = tt
+loses_line longest (Some bytes) most held line rest unread None keeps budget is plain = absurd keeps
+loses_line longest (Some bytes) most held line rest unread (Some more) keeps budget is plain =
     let all : line ++ newline ∷ (rest ++ more) ≡ bytes = sym (append_assoc line (newline ∷ rest) more) ∙ ap (λ h. h ++ more) (sym is) ∙ keeps in
     let size : length line + suc (length rest + unread) ≡ most = omega (arith, ap length is, length-append line (newline ∷ rest), budget) in (
-      (λ i. lines_left (sym size i) (sym all i)) ∙ lines_left-line line (rest ++ more) (length rest + unread) plain,
+      (λ i. lines_left longest (sym size i) (sym all i)) ∙ lines_left-line longest line (rest ++ more) (length rest + unread) plain,
       (λ i. nat_lt (length (sym all i)) (sym size i)) ∙ whole-line line (rest ++ more) (length rest + unread),
     )
 
 -- it begins with a line that is too long
-pub begins_too_long : (told : Option (List ℕ)) (most : ℕ) (held front rest : List ℕ) (unread : ℕ) (left : Option (List ℕ))
-    → Keeps told (prepend_known held left) → length held + unread ≡ most → held ≡ front ++ rest → has_newline front ≡ false → longest_line < length front
-    → IfSome told (λ bytes. BeginsTooLong (lines_left most bytes))
-begins_too_long None most held front rest unread left keeps budget is plain long = tt
-begins_too_long (Some bytes) most held front rest unread None keeps budget is plain long = absurd keeps
-begins_too_long (Some bytes) most held front rest unread (Some more) keeps budget is plain long =
+pub begins_too_long : (longest : ℕ) (told : Option (List ℕ)) (most : ℕ) (held front rest : List ℕ) (unread : ℕ) (left : Option (List ℕ))
+    → Keeps told (prepend_known held left) → length held + unread ≡ most → held ≡ front ++ rest → has_newline front ≡ false → longest < length front
+    → IfSome told (λ bytes. BeginsTooLong longest (lines_left longest most bytes))
+begins_too_long longest None most held front rest unread left keeps budget is plain long = tt
+begins_too_long longest (Some bytes) most held front rest unread None keeps budget is plain long = absurd keeps
+begins_too_long longest (Some bytes) most held front rest unread (Some more) keeps budget is plain long =
     let all : front ++ (rest ++ more) ≡ bytes = sym (append_assoc front rest more) ∙ ap (λ h. h ++ more) (sym is) ∙ keeps in
     let size : length front + (length rest + unread) ≡ most = omega (arith, ap length is, length-append front rest, budget) in
-    subst BeginsTooLong (λ i. lines_left (size i) (all i)) (lines_left-long front (rest ++ more) (length rest + unread) plain long)
+    subst (BeginsTooLong longest) (λ i. lines_left longest (size i) (all i)) (lines_left-long longest front (rest ++ more) (length rest + unread) plain long)
 
 -- all that may be looked at is held, and is no line
-pub ends_used : (told : Option (List ℕ)) (most : ℕ) (held : List ℕ) (unread : ℕ) (left : Option (List ℕ))
-    → Keeps told (prepend_known held left) → length held + unread ≡ most → unread ≡ 0 → has_newline held ≡ false → length held ≤ longest_line
-    → IfSome told (λ bytes. (lines_left most bytes ≡ []) × (false ≡ nat_lt (length bytes) most))
-ends_used None most held unread left keeps budget used plain short = tt
-ends_used (Some bytes) most held unread None keeps budget used plain short = absurd keeps
-ends_used (Some bytes) most held unread (Some more) keeps budget used plain short =
+pub ends_used : (longest : ℕ) (told : Option (List ℕ)) (most : ℕ) (held : List ℕ) (unread : ℕ) (left : Option (List ℕ))
+    → Keeps told (prepend_known held left) → length held + unread ≡ most → unread ≡ 0 → has_newline held ≡ false → length held ≤ longest
+    → IfSome told (λ bytes. (lines_left longest most bytes ≡ []) × (false ≡ nat_lt (length bytes) most))
+ends_used longest None most held unread left keeps budget used plain short = tt
+ends_used longest (Some bytes) most held unread None keeps budget used plain short = absurd keeps
+ends_used longest (Some bytes) most held unread (Some more) keeps budget used plain short =
     let size : length held ≡ most = omega (arith, budget, used) in
-    let used_up = lines_left-used held more plain short in (
-      (λ i. lines_left (sym size i) (sym keeps i)) ∙ used_up.0,
+    let used_up = lines_left-used longest held more plain short in (
+      (λ i. lines_left longest (sym size i) (sym keeps i)) ∙ used_up.0,
       sym ((λ i. nat_lt (length (sym keeps i)) (sym size i)) ∙ used_up.1),
     )
 
 -- the source ended, and what is held is the last line
-pub loses_last : (told : Option (List ℕ)) (most : ℕ) (held : List ℕ) (unread : ℕ) (left : Option (List ℕ))
+pub loses_last : (longest : ℕ) (told : Option (List ℕ)) (most : ℕ) (held : List ℕ) (unread : ℕ) (left : Option (List ℕ))
     → Keeps told (prepend_known held left) → length held + unread ≡ most → IsAtEnd left → 0 < unread → has_newline held ≡ false → 0 < length held
-    → LosesLine most told unread (prepend_known [] left) held
-loses_last None most held unread left keeps budget ended more plain some = tt
-loses_last (Some bytes) most held unread None keeps budget ended more plain some = absurd keeps
-loses_last (Some bytes) most held unread (Some rest) keeps budget ended more plain some =
+    → LosesLine longest most told unread (prepend_known [] left) held
+loses_last longest None most held unread left keeps budget ended more plain some = tt
+loses_last longest (Some bytes) most held unread None keeps budget ended more plain some = absurd keeps
+loses_last longest (Some bytes) most held unread (Some rest) keeps budget ended more plain some =
     let all : held ≡ bytes = sym (append-nil held) ∙ ap (λ r. held ++ r) (sym ended) ∙ keeps in
-    let last = lines_left-last held unread plain some more in (
-      (λ i. lines_left (sym budget i) (sym all i)) ∙ last.0 ∙ ap (λ ls. held ∷ ls) (sym (ap (lines_left unread) ended ∙ lines_left-nil unread)),
+    let last = lines_left-last longest held unread plain some more in (
+      (λ i. lines_left longest (sym budget i) (sym all i)) ∙ last.0 ∙ ap (λ ls. held ∷ ls) (sym (ap (lines_left longest unread) ended ∙ lines_left-nil longest unread)),
       (λ i. nat_lt (length (sym all i)) (sym budget i)) ∙ last.1 ∙ sym (lt-ltb (length rest) unread (omega (arith, ap length ended, more))),
     )
 
 -- the source ended, and nothing is held
-pub ends_whole : (told : Option (List ℕ)) (most : ℕ) (held : List ℕ) (unread : ℕ) (left : Option (List ℕ))
+pub ends_whole : (longest : ℕ) (told : Option (List ℕ)) (most : ℕ) (held : List ℕ) (unread : ℕ) (left : Option (List ℕ))
     → Keeps told (prepend_known held left) → length held + unread ≡ most → IsAtEnd left → 0 < unread → held ≡ []
-    → IfSome told (λ bytes. (lines_left most bytes ≡ []) × (true ≡ nat_lt (length bytes) most))
-ends_whole None most held unread left keeps budget ended more none = tt
-ends_whole (Some bytes) most held unread None keeps budget ended more none = absurd keeps
-ends_whole (Some bytes) most held unread (Some rest) keeps budget ended more none =
+    → IfSome told (λ bytes. (lines_left longest most bytes ≡ []) × (true ≡ nat_lt (length bytes) most))
+ends_whole longest None most held unread left keeps budget ended more none = tt
+ends_whole longest (Some bytes) most held unread None keeps budget ended more none = absurd keeps
+ends_whole longest (Some bytes) most held unread (Some rest) keeps budget ended more none =
     let all : bytes ≡ [] = sym keeps ∙ (λ i. none i ++ ended i) in
-    (ap (lines_left most) all ∙ lines_left-nil most, sym (lt-ltb (length bytes) most (omega (arith, ap length all, budget, more))))
+    (ap (lines_left longest most) all ∙ lines_left-nil longest most, sym (lt-ltb (length bytes) most (omega (arith, ap length all, budget, more))))
 
 -- a piece was read behind what is held
 pub Keeps-read : (told : Option (List ℕ)) (held piece : List ℕ) (left rest : Option (List ℕ))

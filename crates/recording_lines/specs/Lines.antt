@@ -10,7 +10,7 @@ newline = NEWLINE
 abbrev pub most_bytes : ℕ
 most_bytes = MOST_BYTES
 
--- how many bytes a line may have without its newline
+-- how many bytes a line may have without its newline, where nothing else is said
 abbrev pub longest_line : ℕ
 longest_line = LONGEST_LINE
 
@@ -32,28 +32,29 @@ abbrev pub cut : List ℕ → List (List ℕ) × List ℕ
 cut [] = ([], [])
 cut (c ∷ cs) = if c == newline then ([] ∷ (cut cs).0, (cut cs).1) else with_front c (cut cs).0 (cut cs).1
 
--- whether a last piece is a line: it has a byte, and the recording ends with it or it is too long for a line already
-abbrev pub is_last_line : Bool → List ℕ → Bool
-is_last_line whole piece = nat_lt 0 (length piece) && (whole || nat_lt longest_line (length piece))
+-- where a line may have so many bytes: whether a last piece is a line, as it is where it has a byte, and the recording ends
+-- with it or it is too long for a line already
+abbrev pub is_last_line : ℕ → Bool → List ℕ → Bool
+is_last_line longest whole piece = nat_lt 0 (length piece) && (whole || nat_lt longest (length piece))
 
-abbrev pub last_line : Bool → List ℕ → List (List ℕ)
-last_line whole piece = if is_last_line whole piece then piece ∷ [] else []
+abbrev pub last_line : ℕ → Bool → List ℕ → List (List ℕ)
+last_line longest whole piece = if is_last_line longest whole piece then piece ∷ [] else []
 
 -- the lines of some bytes, which are the whole recording or its front
-abbrev pub lines_of : Bool → List ℕ → List (List ℕ)
-lines_of whole bytes = (cut bytes).0 ++ last_line whole (cut bytes).1
+abbrev pub lines_of : ℕ → Bool → List ℕ → List (List ℕ)
+lines_of longest whole bytes = (cut bytes).0 ++ last_line longest whole (cut bytes).1
 
 -- whether the recording is shorter than what is looked at
 abbrev pub is_whole : List ℕ → Bool
 is_whole recording = nat_lt (length recording) most_bytes
 
 -- the lines of what is left of a recording, of which so many bytes may still be looked at
-abbrev pub lines_left : ℕ → List ℕ → List (List ℕ)
-lines_left budget bytes = lines_of (nat_lt (length bytes) budget) (take budget bytes)
+abbrev pub lines_left : ℕ → ℕ → List ℕ → List (List ℕ)
+lines_left longest budget bytes = lines_of longest (nat_lt (length bytes) budget) (take budget bytes)
 
--- the lines of a recording
+-- the lines of a recording, whose lines may have `longest_line` bytes
 abbrev pub recorded_lines : List ℕ → List (List ℕ)
-recorded_lines recording = lines_left most_bytes recording
+recorded_lines recording = lines_left longest_line most_bytes recording
 
 -- a space, a tab or a return
 abbrev pub is_blank_byte : ℕ → Bool

@@ -17,7 +17,7 @@ const PIECE: usize = 65_536;
 pub enum Next {
     /// A line: `LineReader::line` has its bytes.
     Line,
-    /// A line of more than `LONGEST_LINE` bytes, which isn't gathered.
+    /// A line of more bytes than the reader's `longest`, which isn't gathered.
     TooLong,
     /// No line. `whole` tells whether the recording ended before `MOST_BYTES` of its bytes were
     /// looked at.
@@ -36,7 +36,7 @@ enum Gathered {
 }
 
 /// Reads the lines of one recording, of which it looks at `MOST_BYTES` bytes at most. It keeps a
-/// buffer of 65,536 bytes and one line.
+/// buffer of 65,536 bytes and one line of at most `longest` bytes.
 #[derive(Drop)]
 pub struct LineReader {
     /// What was read last stands here: `PIECE` bytes always.
@@ -45,13 +45,15 @@ pub struct LineReader {
     start: usize,
     /// Where they end. At most `PIECE`.
     end: usize,
-    /// The line that was given last or, while it is open, is being gathered. At most `LONGEST_LINE`
+    /// The line that was given last or, while it is open, is being gathered. At most `longest`
     /// bytes, and no newline.
     line: Vec<u8>,
     /// Whether the line has no end yet.
     is_open: bool,
     /// How many bytes may still be read. At most `MOST_BYTES`.
     unread: usize,
+    /// How many bytes a line may have without its newline. At most `MOST_BYTES`.
+    longest: usize,
 }
 
 impl Model for LineReader {
@@ -73,7 +75,7 @@ impl LineReader {
     ghost use Rattle.std.specs.Io.KnownBytes.{Keeps};
     ghost use Rattle.recording_lines.specs.declared.fault.ReadFault.TheVariants as fault;
 
-    /// A reader at the beginning of a recording.
+    /// A reader at the beginning of a recording, whose lines may have `LONGEST_LINE` bytes.
     ///
     /// # Errors
     ///
@@ -81,6 +83,24 @@ impl LineReader {
     pub fn new(alloc: Global) -> Result<LineReader, AllocError>
         ensures empty { IfOk result (λ reader. held reader ≡ []) }
         ensures unread { IfOk result (λ reader. reader.unread ≡ most_bytes) }
+        ensures longest { IfOk result (λ reader. reader.longest ≡ longest_line) }
+    {
+        LineReader::with_longest(alloc, LONGEST_LINE)
+    }
+
+    /// A reader at the beginning of a recording, whose lines may have `longest` bytes without the
+    /// newline. `longest` must be at most `MOST_BYTES`.
+    ///
+    /// It takes the buffer alone. The memory for a line is taken as the line comes.
+    ///
+    /// # Errors
+    ///
+    /// `AllocError` where there is no memory for the buffer.
+    pub fn with_longest(alloc: Global, longest: usize) -> Result<LineReader, AllocError>
+        requires { longest ≤ most_bytes }
+        ensures empty { IfOk result (λ reader. held reader ≡ []) }
+        ensures unread { IfOk result (λ reader. reader.unread ≡ most_bytes) }
+        ensures longest { IfOk result (λ reader. reader.longest ≡ longest) }
     {
         Ok(LineReader {
             buffer: vec![in alloc; 0u8; PIECE]?,
@@ -89,6 +109,7 @@ impl LineReader {
             line: Vec::new(alloc),
             is_open: false,
             unread: MOST_BYTES,
+            longest,
         })
     }
 
@@ -109,22 +130,26 @@ impl LineReader {
     /// `Failed` where a read failed, and `OutOfMemory` where the line doesn't fit.
     pub fn next_line<S: Source>(&mut self, source: &mut S) -> Result<Next, ReadFault>
         // The first of the lines to come is this one, and the others are still to come.
-        ensures line { OnLine result (LosesLine
+        ensures line { OnLine result (LosesLine self.old.longest
             (budget self.old) (to_come self.old (S.left source.old))
             (budget self.new) (to_come self.new (S.left source.new)) self.new.line) }
-        ensures short { OnLine result (length self.new.line ≤ longest_line) }
+        ensures short { OnLine result (length self.new.line ≤ self.old.longest) }
         ensures shorter { OnLine result (budget self.new < budget self.old) }
 
         // Other answers, and what they leave.
         ensures too_long { OnTooLong result (IfSome (to_come self.old (S.left source.old))
-            (λ bytes. BeginsTooLong (lines_left (budget self.old) bytes))) }
+            (λ bytes. BeginsTooLong self.old.longest (lines_left self.old.longest (budget self.old) bytes))) }
         ensures end { IfEnd result (λ whole. IfSome (to_come self.old (S.left source.old))
-            (λ bytes. (lines_left (budget self.old) bytes ≡ []) × (whole ≡ nat_lt (length bytes) (budget self.old)))) }
+            (λ bytes. (lines_left self.old.longest (budget self.old) bytes ≡ [])
+            × (whole ≡ nat_lt (length bytes) (budget self.old)))) }
         ensures kept { UnlessLine result (Keeps (to_come self.old (S.left source.old)) (to_come self.new (S.left source.new))) }
         ensures kept_budget { UnlessLine result (budget self.new ≡ budget self.old) }
 
         ensures faults_stay { S.faults source.old ≤ S.faults source.new }
         ensures failed { IsErrOf result fault.Failed → S.faults source.old < S.faults source.new }
+
+        // On every answer the limit of a line stays.
+        ensures longest { self.new.longest ≡ self.old.longest }
 
         // On every answer a front is gone from the source, of no more bytes than may be read no longer.
         ensures taken { TakesUnread self.old.unread self.new.unread (S.left source.old) (S.left source.new) }
@@ -169,7 +194,7 @@ impl LineReader {
     {
         let (piece, is_whole) = first_piece(&self.buffer[self.start..self.end]);
         let taken = piece.len();
-        if self.line.len() + taken > LONGEST_LINE {
+        if self.line.len() + taken > self.longest {
             return Ok(Gathered::TooLong);
         }
         self.line.extend_from_slice(piece)?;

@@ -8,7 +8,7 @@ pub const NEWLINE: u8 = b'\n';
 /// How many bytes of a recording are looked at.
 pub const MOST_BYTES: usize = 1 << 30;
 
-/// How many bytes a line may have without its newline.
+/// How many bytes a line may have without its newline, where its reader has no other limit.
 pub const LONGEST_LINE: usize = 1 << 20;
 
 /// Whether the line has spaces, tabs and returns alone.

@@ -14,7 +14,7 @@ returns-in_err-n-clause-err g c =
     let same = buffered-nil r.buffer.items (take r.buffer.len (c.read_front.new.buffer ++ drop (length c.read_front.new.buffer) r.buffer.items)) r.start r.end within empty ∙ sym c.requires.empty in
     let p = err_from_is_err_and c.from_residual.result c.from_residual.ensures.1 in
     rw p.1 (
-      (λ i. record { line = (c.self.view_is i).line; is_open = (c.self.view_is i).is_open; buffered = same i; unread = (c.self.view_is i).unread }),
+      (λ i. record { line = (c.self.view_is i).line; is_open = (c.self.view_is i).is_open; buffered = same i; unread = (c.self.view_is i).unread; longest = (c.self.view_is i).longest }),
       c.in_err-n.ensures.bytes,
     )
 
@@ -33,7 +33,7 @@ returns-clause-ok g c =
     let some : 0 < length (take c.min.result given) = omega (arith, length-take-le c.min.result given (omega (arith, len, c.min.ensures)), c.min.ensures, c.requires.unread, unread) in (
       omega (arith, room, c.min.ensures, unread),
       ap length (sym front ∙ take-take n c.min.result given room) ∙ length-take-le n given within,
-      (λ i. record { line = (c.self.view_is i).line; is_open = (c.self.view_is i).is_open; buffered = take n (take r.buffer.len (given ++ drop (length given) r.buffer.items)); unread = unread i - n }),
+      (λ i. record { line = (c.self.view_is i).line; is_open = (c.self.view_is i).is_open; buffered = take n (take r.buffer.len (given ++ drop (length given) r.buffer.items)); unread = unread i - n; longest = (c.self.view_is i).longest }),
       subst (Consumes _ _) front c.in_ok-n.ensures.bytes.0,
       λ none. c.in_ok-n.ensures.bytes.1 none some,
     )

@@ -9,7 +9,7 @@ invariant-pieces g l =
     let faults = g.S.Source.faults in
     let left = g.S.Source.left in
     record {
-      awaits : Awaits (to_come l.fn.self (left l.fn.source)) (budget l.fn.self) l.self (left l.source);
+      awaits : Awaits l.fn.self.longest (to_come l.fn.self (left l.fn.source)) (budget l.fn.self) l.self (left l.source);
       faults_stay : faults l.fn.source ≤ faults l.source;
       taken : TakesUnread l.fn.self.unread l.self.unread (left l.fn.source) (left l.source);
     }
