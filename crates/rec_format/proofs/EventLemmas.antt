@@ -113,7 +113,7 @@ named-word_of verb.Show = refl
 named-word_of verb.End = refl
 
 -- two verbs have two words
-one_word : (v w : Verb) → word_of v ≡ word_of w → v ≡ w
+pub one_word : (v w : Verb) → word_of v ≡ word_of w → v ≡ w
 one_word v w is = sym (named-word_of v) ∙ ap named is ∙ named-word_of w
 
 -- fields that are those of no event of the verb aren't those of an event that has it

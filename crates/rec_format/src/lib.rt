@@ -28,3 +28,4 @@ pub use printed::PrintedLine;
 pub use read::{read_header, read_line};
 pub use recorded::RecordedEvent;
 pub use room_model::{Event, Header, OutLine};
+pub use verb::Verb;
