@@ -1,9 +1,9 @@
--- A world in which nothing happened.
+-- A world with which events begin.
 use Rattle.std.proofs.Common.{◌≡◌, ℕ, [], refl, sym, subst}
-use Rattle.room_model.specs.Rooms.{new_room}
-use Rattle.room_model.specs.Reachable.{made}
-use Rattle.room_model.specs.Worlds.{new_world}
-use Rattle.room_model.specs.declared.limits.TheConstants.{LAST_CLOCK}
+use Rattle.room_model.specs.Rooms.{Room}
+use Rattle.room_model.specs.Reachable.{IsBeginning, begins as from_beginning}
+use Rattle.room_model.specs.Worlds.{world_over}
+use Rattle.room_model.proofs.BegunLemmas.{nobody_there}
 use Rattle.tl_tables.specs.Tables.{IsVersion, IsSchemaAt}
 use Rattle.peer_schemas.specs.Clients.{AreOfTables, schemas_of}
 use Rattle.sync_room.specs.Standing as room_of
@@ -24,19 +24,19 @@ module _ (version : ℕ) (known : IsVersion version) (live : Live) (at : IsSchem
   is_at_version = (tables_are, refl)
 
   -- the parts with which a world begins
-  pub begins : room_of.Stands (new_room LAST_CLOCK) live.room → live.clients.items ≡ [] → to_room live.queues ≡ [] → to_client live.queues ≡ []
-      → Keeps (schemas_of (room_of.tree_of live.room)) new_world live
-  begins room clients sent given =
+  pub begins : (state : Room) → IsBeginning (schemas_of (room_of.tree_of live.room)).room state → room_of.Stands state live.room → live.clients.items ≡ [] → to_room live.queues ≡ [] → to_client live.queues ≡ []
+      → Keeps (schemas_of (room_of.tree_of live.room)) (world_over state) live
+  begins state beginning room clients sent given =
       let schemas = schemas_of (room_of.tree_of live.room) in
       record {
-        reachable = begun (new_room LAST_CLOCK) (made LAST_CLOCK) refl;
+        reachable = begun state (from_beginning state beginning) (nobody_there schemas.room state beginning);
         fits = record {
           tables = tables_are;
           decided = refl;
           room = room;
           clients =
-              subst (λ ks. AreKept (IsClient schemas new_world.room.history) [] ks) (sym clients) (record { long = refl; each = λ n c one at there. absurd (cc) });
+              subst (λ ks. AreKept (IsClient schemas state.history) [] ks) (sym clients) (record { long = refl; each = λ n c one at there. absurd (cc) });
           sent = sent;
         };
-        given = subst (λ q. AreQueues schemas new_world q) (sym given) (queues_begin schemas (new_room LAST_CLOCK));
+        given = subst (λ q. AreQueues schemas (world_over state) q) (sym given) (queues_begin schemas state);
       }

@@ -1,15 +1,13 @@
 -- What the entries of a history name, by their places.
-use Rattle.std.proofs.Common.{◌≡◌, ℕ, zero, suc, true, List, [], ◌∷◌, slice_get, Some, None, ap, subst, ◌∙◌, sym}
+use Rattle.std.proofs.Common.{◌≡◌, ℕ, zero, suc, true, List, [], ◌∷◌, slice_get, Some, ap, subst, ◌∙◌, sym}
 use Rattle.room_model.specs.Schemas.{WorldSchemas}
 use Rattle.room_model.specs.Histories.{History}
 use Rattle.room_model.specs.Naming.{IsNamedBy, AllNamed}
-use Rattle.room_model.specs.Closing.{is_closed}
-use Rattle.room_model.specs.Rooms.{Session, Room, removal}
+use Rattle.room_model.specs.Rooms.{Session}
 use Rattle.room_model.specs.declared.history.Author.{Author}
 use Rattle.room_model.specs.declared.history.Entry.{Entry}
 use Rattle.room_model.proofs.EntryLemmas.{reachable_names}
 use Rattle.side_effects.specs.declared.fault.EditFault.{EditFault}
-use Rattle.world_laws.specs.Presences.{AllRemovals}
 use Rattle.world_laws.proofs.DiffLemmas.{room_reached}
 use Rattle.world_laws.proofs.PresenceLemmas.{reachable_removals}
 use Rattle.sync_world.specs.Standing.{Stands}
@@ -31,16 +29,6 @@ named_at schemas sessions (first ∷ history) all zero entry author there by =
     subst P same (all.0 author) by
 named_at schemas sessions (first ∷ history) all (suc at) entry author there by = named_at schemas sessions history all.1 at entry author there by
 
--- what an entry at a place removes
-removed_at : (room : Room) (history : History) → AllRemovals room history → (at : ℕ) (entry : Entry) → slice_get history at ≡ Some entry → entry.author ≡ None
-    → (session : ℕ) × (entry ≡ removal session) × (is_closed room session ≡ true)
-removed_at room [] all at entry there by = absurd (cc)
-removed_at room (first ∷ history) all zero entry there by =
-    let same = the_same first entry there in
-    let P : Entry → Type 0 = λ e. e.author ≡ None → (session : ℕ) × (e ≡ removal session) × (is_closed room session ≡ true) in
-    subst P same all.0 by
-removed_at room (first ∷ history) all (suc at) entry there by = removed_at room history all.1 at entry there by
-
 module _ (code : World) where
   pub readonly : ReadonlyEditNothing code
   readonly schemas w at entry author session stands there by entered only =
@@ -55,6 +43,6 @@ module _ (code : World) where
       (named_at schemas w.room.sessions w.room.history (reachable_names schemas.room lawful.room w.room (room_reached schemas lawful w stands.keeps.reachable)) at entry author there by).names
 
   pub unauthored : OthersRemovePresences code
-  unauthored schemas w at entry stands there by =
+  unauthored schemas w stands =
       let lawful = lawful_of schemas stands.keeps.fits.tables in
-      removed_at w.room w.room.history (reachable_removals schemas.room w.room (room_reached schemas lawful w stands.keeps.reachable)) at entry there by
+      reachable_removals schemas.room w.room (room_reached schemas lawful w stands.keeps.reachable)

@@ -1,14 +1,13 @@
 -- What the entries of the room's history name, and whose they are.
-use Rattle.std.specs.Prelude.{◌≡◌, ℕ, slice_get, true, not, ◌||◌, Some, None}
+use Rattle.std.specs.Prelude.{◌≡◌, ℕ, slice_get, true, not, ◌||◌, Some}
 use Rattle.std.specs.List.{list_all}
 use Rattle.room_model.specs.Schemas.{WorldSchemas, is_own}
-use Rattle.room_model.specs.Closing.{is_closed}
-use Rattle.room_model.specs.Rooms.{Session, Room, removal}
+use Rattle.room_model.specs.Rooms.{Session, Room}
 use Rattle.room_model.specs.Worlds as model
 use Rattle.room_model.specs.declared.history.Author.{Author}
 use Rattle.room_model.specs.declared.history.Entry.{Entry}
 use Rattle.side_effects.specs.declared.fault.EditFault.{EditFault}
-use Rattle.world_laws.specs.Presences.{GoesOnByClosing}
+use Rattle.world_laws.specs.Presences.{GoesOnByClosing, GoesOnByRemovals}
 use Rattle.sync_world.specs.Standing.{Stands}
 use Rattle.sync_world.specs.declared.world.World.{World}
 
@@ -27,12 +26,9 @@ AuthorsNameTheirOwn code =
     → Stands schemas world code → slice_get world.room.history at ≡ Some entry → entry.author ≡ Some author
     → list_all (λ c. schemas.room.is_document c.0 || is_own author.session c.0) entry.diff ≡ true
 
--- an entry without author removes the presence of a session that was ended or has left
+-- an entry without author is one of those with which the room began, or removes the presence of a session that was ended or has left
 abbrev pub OthersRemovePresences : World → Type 0
-OthersRemovePresences code =
-    (schemas : WorldSchemas EditFault) (world : model.World) (at : ℕ) (entry : Entry)
-    → Stands schemas world code → slice_get world.room.history at ≡ Some entry → entry.author ≡ None
-    → (session : ℕ) × (entry ≡ removal session) × (is_closed world.room session ≡ true)
+OthersRemovePresences code = (schemas : WorldSchemas EditFault) (world : model.World) → Stands schemas world code → GoesOnByRemovals schemas.room world.room
 
 -- the code stands for a world whose history is that of a room with entries on top, of which each without author removes the presence of a
 -- session that was closed meanwhile

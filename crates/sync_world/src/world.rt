@@ -4,9 +4,15 @@ ghost use Rattle.rooms_val.specs.Data.{Pairs};
 ghost use Rattle.room_model.specs.Schemas.{WorldSchemas};
 ghost use Rattle.room_model.specs.Replicas.{Client};
 ghost use Rattle.room_model.specs.Worlds as model;
-ghost use Rattle.room_model.specs.Worlds.{new_world, after_event};
+ghost use Rattle.room_model.specs.Worlds.{new_world, world_over, after_event};
+ghost use Rattle.room_model.specs.Rooms as state_of;
+ghost use Rattle.room_model.specs.Reachable.{IsBeginning};
+ghost use Rattle.room_schemas.specs.Decided.{decided};
+ghost use Rattle.peer_schemas.specs.Clients.{schemas_of};
+ghost use Rattle.sync_room.specs.Standing as room_of;
+ghost use Rattle.sync_room.specs.Standing.{tree_of};
 ghost use Rattle.side_effects.specs.declared.fault.EditFault.{EditFault};
-ghost use Rattle.tl_tables.specs.Tables.{IsVersion};
+ghost use Rattle.tl_tables.specs.Tables.{IsVersion, IsSchemaAt};
 ghost use Rattle.sync_peer.specs.Standing as peer_of;
 ghost use Rattle.sync_world.specs.Playing.{IsPlayed};
 ghost use Rattle.sync_world.specs.Holding.{held_of};
@@ -52,16 +58,29 @@ impl World {
         ensures stores { IfOk result (λ world. stores_of world ≡ []) }
     {
         match schema_at(alloc, version) {
-            Ok(schema) => Ok(World {
-                live: Live {
-                    room: Room::new(alloc, schema, LAST_CLOCK as i64)?,
-                    queues: Queues::new(alloc),
-                    clients: Vec::new(alloc),
-                },
-                spent: false,
-            }),
+            Ok(schema) => Ok(World::over(alloc, Room::new(alloc, schema, LAST_CLOCK as i64)?)),
             Err(TableFault::NoSuchVersion) => unreachable!(),
             Err(TableFault::OutOfMemory) => Err(OutOfMemory),
+        }
+    }
+
+    /// A world over a room with which calls begin, as it was made or loaded, whose schema is that of a
+    /// version of the tables; there is no client. It costs nothing.
+    pub fn over(alloc: Global, room: Room) -> World
+        ensures stands { (version : ℕ) (state : state_of.Room) → IsVersion version
+            → IsSchemaAt version (tree_of room) → room_of.Stands state room
+            → IsBeginning (decided (tree_of room)) state
+            → IsAtVersion version (schemas_of (tree_of room))
+            × Stands (schemas_of (tree_of room)) (world_over state) result }
+        ensures stores { stores_of result ≡ [] }
+    {
+        World {
+            live: Live {
+                room,
+                queues: Queues::new(alloc),
+                clients: Vec::new(alloc),
+            },
+            spent: false,
         }
     }
 
@@ -77,8 +96,8 @@ impl World {
     /// Afterwards each client that owes no edit and has reached the room's clock shows the room's
     /// document, seen at its version. In the room's history an entry of a read-only session names no
     /// id of the document; an entry with an author names ids of the document and the author's own
-    /// presence alone; and one without author removes the presence of a session that was ended or
-    /// has left, by the event that appended the entry.
+    /// presence alone; and one without author is one of those with which the room began, or removes
+    /// the presence of a session that was ended or has left, by the event that appended the entry.
     ///
     /// # Errors
     ///
@@ -141,6 +160,16 @@ impl World {
         ensures store { slice_get (stores_of self.now) client ≡ Some (store_of result.now) }
     {
         &self.live.clients[client as usize].peer
+    }
+
+    /// The room. It stands for the room of the definitions, and its schema decides.
+    pub fn room(&self) -> &Room
+        ensures stands { (schemas : WorldSchemas EditFault) (world : model.World)
+            → Stands schemas world self.now → room_of.Stands world.room result.now }
+        ensures decided { (schemas : WorldSchemas EditFault) (world : model.World)
+            → Stands schemas world self.now → schemas ≡ schemas_of (tree_of result.now) }
+    {
+        &self.live.room
     }
 }
 

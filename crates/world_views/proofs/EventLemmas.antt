@@ -6,7 +6,8 @@ use Rattle.live_views.specs.Watches.{Watched, told_now, news}
 use Rattle.room_model.specs.Schemas.{WorldSchemas}
 use Rattle.room_model.specs.Replicas.{Client, new_client}
 use Rattle.room_model.specs.Worlds as model
-use Rattle.room_model.specs.Worlds.{after_event, new_world}
+use Rattle.room_model.specs.Rooms.{Room}
+use Rattle.room_model.specs.Worlds.{after_event, world_over}
 use Rattle.room_model.specs.declared.event.Event.{Event}
 use Rattle.room_model.specs.declared.event.Event.TheVariants as event
 use Rattle.room_model.specs.declared.fault.StepFault.{StepFault}
@@ -20,7 +21,7 @@ use Rattle.sync_world.specs.Standing as world_of
 use Rattle.sync_world.specs.Viewing.{stores_of, stores_kept, changed_by, KeepsStores, ChangesOne, MayJoin}
 use Rattle.sync_world.specs.declared.live.WorldClient.{WorldClient}
 use Rattle.sync_world.specs.declared.world.World.{World}
-use Rattle.world_views.specs.Views.{Viewed, Stepped, nothing_viewed, tells, told_lines, clients_told, with_joined, shown_by}
+use Rattle.world_views.specs.Views.{Viewed, Stepped, nobody_viewing, tells, told_lines, clients_told, with_joined, shown_by}
 use Rattle.world_views.specs.Standing.{IsViewing, IsQuiet, Keeps, MayTell, After}
 use Rattle.world_views.proofs.StoreLemmas.{shown_are}
 use Rattle.world_views.proofs.TellingLemmas.{maps_of, none_tells, AreQuietBut}
@@ -136,8 +137,8 @@ module _ (schemas : WorldSchemas EditFault) where
   refusal_of world outcome OutOfMemory code other refuses = absurd (other refl)
 
   -- where there is no client nothing is watched
-  pub nothing_keeps : (code : World) → world_of.Stands schemas new_world code → stores_of code ≡ [] → Keeps schemas nothing_viewed code
-  nothing_keeps code stands none = record {
+  pub nothing_keeps : (room : Room) (code : World) → world_of.Stands schemas (world_over room) code → stores_of code ≡ [] → Keeps schemas (nobody_viewing (world_over room)) code
+  nothing_keeps room code stands none = record {
     world = stands;
     watched = subst (AreKept IsViewing []) (sym none) (record { long = refl; each = λ n ws store at there. absurd (cc) });
     quiet = subst (AreKept IsQuiet []) (sym none) (record { long = refl; each = λ n ws store at there. absurd (cc) });

@@ -27,9 +27,13 @@ pub record Viewed : Type 0 where
   -- by the numbers of the clients, as many as those: each view, with what was last told of it
   pub watched : List (List Watched)
 
--- a world in which nothing happened, so that there is no client
+-- the same where there is no client, so that nobody watches
+abbrev pub nobody_viewing : World → Viewed
+nobody_viewing world = record { world = world; watched = [] }
+
+-- a world in which nothing happened
 abbrev pub nothing_viewed : Viewed
-nothing_viewed = record { world = new_world; watched = [] }
+nothing_viewed = nobody_viewing new_world
 
 -- what an event that can happen makes: the next world with its watches, and what is printed
 pub record Stepped : Type 0 where

@@ -2,18 +2,21 @@
 ghost use Rattle.std.specs.Prelude.{◌≡◌, ◌∷◌, [], ℕ, Bool, List, Some, None, true, IfOk, OnOk, Err};
 ghost use Rattle.rooms_val.specs.Data.{Pairs};
 ghost use Rattle.room_model.specs.Schemas.{WorldSchemas};
+ghost use Rattle.room_model.specs.Rooms.{Room};
+ghost use Rattle.room_model.specs.Worlds.{world_over};
 ghost use Rattle.room_model.specs.declared.event.Event.{Event};
 ghost use Rattle.rec_format.specs.declared.recorded.RecordedEvent.TheVariants as recorded;
 ghost use Rattle.side_effects.specs.declared.fault.EditFault.{EditFault};
 ghost use Rattle.tl_tables.specs.Tables.{IsVersion};
 ghost use Rattle.sync_world.specs.Playing.{IsPlayed};
 ghost use Rattle.sync_world.specs.Standing.{IsAtVersion};
-ghost use Rattle.sync_world.specs.Viewing.{changed_by};
+ghost use Rattle.sync_world.specs.Standing as world_of;
+ghost use Rattle.sync_world.specs.Viewing.{changed_by, stores_of};
 ghost use Rattle.sync_world.specs.CaughtUp.{CaughtUpShowTheRoom};
 ghost use Rattle.sync_world.specs.Entries.{ReadonlyEditNothing, AuthorsNameTheirOwn};
 ghost use Rattle.sync_world.specs.Entries.{OthersRemovePresences, ClosesSince};
 ghost use Rattle.sync_world.specs.Restoring.{IsSinceMark, GoesBack, Shows};
-ghost use Rattle.world_views.specs.Views.{Viewed, nothing_viewed, tells, on_event, on_watch, on_query, after_recorded};
+ghost use Rattle.world_views.specs.Views.{Viewed, nothing_viewed, nobody_viewing, tells, on_event, on_watch, on_query, after_recorded};
 ghost use Rattle.world_views.specs.Standing.{Keeps, MayTell, After, Stands, StepsTo, IsPlayable, is_spent};
 
 use crate::lines::{add_told, one_line, printed};
@@ -48,10 +51,20 @@ impl ViewedWorld {
         ensures { IfOk result (λ code. (schemas : WorldSchemas EditFault)
             × (IsAtVersion version schemas) × Stands schemas nothing_viewed code) }
     {
-        Ok(ViewedWorld {
-            world: World::new(alloc, version)?,
+        Ok(ViewedWorld::over(World::new(alloc, version)?))
+    }
+
+    /// A world over a room that nobody entered, so that there is no client and nobody watches. It
+    /// costs nothing.
+    pub fn over(world: World) -> ViewedWorld
+        ensures { (schemas : WorldSchemas EditFault) (room : Room)
+            → world_of.Stands schemas (world_over room) world → stores_of world ≡ []
+            → Stands schemas (nobody_viewing (world_over room)) result }
+    {
+        ViewedWorld {
+            world,
             spent: false,
-        })
+        }
     }
 
     /// Lets an event of a recording happen, and answers the lines that it prints: its own, with

@@ -1,4 +1,4 @@
-use Rattle.std.proofs.Common.{ℕ, ◌∙◌, ap, sym, subst}
+use Rattle.std.proofs.Common.{ℕ, true, ◌∙◌, ap, sym, subst}
 use Rattle.room_model.specs.Worlds as model
 use Rattle.room_model.specs.Worlds.{after_event}
 use Rattle.world_laws.specs.Restoring.{ShowsSound}
@@ -58,3 +58,9 @@ returns-in-Ok-clause-unauthored g c =
 
 pub returns-in-Ok-clause-stores : goal.returns-in-Ok-clause-stores
 returns-in-Ok-clause-stores g c = λ going. c.in-Ok.ensures.stores
+
+pub returns-then-self-clause-unauthored : goal.returns-then-self-clause-unauthored
+returns-then-self-clause-unauthored g c = unauthored c.args.self.now
+
+pub returns-in-Err-clause-unauthored : goal.returns-in-Err-clause-unauthored
+returns-in-Err-clause-unauthored g c = unauthored (record { live = c.happen.new.self; spent = true })
