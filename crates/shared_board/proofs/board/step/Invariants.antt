@@ -1,0 +1,5 @@
+use Rattle.shared_board.proofs.board.step.Given as goal
+
+-- the ledger is the one that the blank is of
+abbrev pub ghosts-step_in : goal.ghosts-step_in
+ghosts-step_in a = record { name = a.blank.name; parts = a.blank.parts }
