@@ -1,0 +1,3 @@
+pub mod SendingLemmas
+pub mod HearingLemmas
+pub mod WaitingLemmas

@@ -1,0 +1,15 @@
+use Rattle.client_link.proofs.HearingLemmas.{refuses_alike}
+use Rattle.link_texts.proofs.HearingLemmas.{refused_as, same_fault, takes, refuses_piece}
+use Rattle.client_link.proofs.hearing.taken.Goals as goal
+
+pub returns-in_err-feed-clause-refused : goal.returns-in_err-feed-clause-refused
+returns-in_err-feed-clause-refused c =
+    let fed = c.in_err-feed.ensures in
+    refused_as _ c.from_residual.result _ c.from_residual.ensures.1
+    (refuses_alike c.args.assembler.now c.args.bytes.now c.in_err-feed.field-0.0
+    (refuses_piece c.args.assembler.now c.in-Ok.piece.now c.args.bytes.now c.in_err-feed.field-0.0 c.in-Ok.ensures.cases fed.gives (λ none. same_fault _ _ (fed.bad none))))
+
+pub returns-clause-taken : goal.returns-clause-taken
+returns-clause-taken c =
+    let fed = c.in_ok-feed.ensures in
+    takes c.args.assembler.now c.feed.new.self c.in-Ok.piece.now c.args.bytes.now c.in_ok-feed.field-0 c.in-Ok.ensures.cases fed.gives fed.leaves fed.bad

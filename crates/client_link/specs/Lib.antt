@@ -1,0 +1,4 @@
+pub mod Hearing
+pub mod Sayings
+pub mod Sending
+pub mod Waiting

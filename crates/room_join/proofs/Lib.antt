@@ -1,0 +1,4 @@
+pub mod PushingLemmas
+pub mod AnsweringLemmas
+pub mod WatchLemmas
+pub mod HearingLemmas

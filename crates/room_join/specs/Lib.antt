@@ -1,0 +1,5 @@
+pub mod Lines
+pub mod Texts
+pub mod Joiners
+pub mod Standing
+pub mod Hearing
