@@ -1,0 +1,6 @@
+pub mod FaringLemmas
+pub mod ServedLemmas
+pub mod WayLemmas
+pub mod TextLemmas
+pub mod LinkedLemmas
+pub mod ScriptedLemmas
