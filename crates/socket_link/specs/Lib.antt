@@ -1,3 +1,4 @@
+pub mod Connecting
 pub mod Links
 pub mod Reasons
 pub mod Sockets

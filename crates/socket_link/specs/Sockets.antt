@@ -1,7 +1,6 @@
 -- What calls on a socket give.
 use Rattle.std.specs.Prelude.{◌≡◌, ℕ, List, ⊤, Option, Result, Ok, Err}
 use Rattle.tungstenite.specs.Socket.{Socket, Reads, content_of}
-use Rattle.tungstenite.specs.declared.error.Error.{Error}
 use Rattle.tungstenite.specs.declared.message.Message.{Message}
 use Rattle.websocket.specs.Content.{text}
 use Rattle.socket_link.specs.declared.exchange.Broken.{Broken}

@@ -16,15 +16,15 @@ use std::io;
 use std::io::{ErrorKind, Read, Write};
 use std::net::{OpenStream, Shutdown};
 use sync_msgs::EndReason;
-use tungstenite::{Bytes, CloseCode, CloseFrame, Error, Message, NoMask, Utf8Bytes, WebSocket};
+use tungstenite::{Bytes, CloseCode, CloseFrame, Error, MaskKeys, Message, Utf8Bytes, WebSocket};
 use websocket::error::ProtocolError;
 
-/// A server's socket.
-pub(crate) type Socket<S> = WebSocket<Heard<S>, NoMask>;
+/// A socket of a link, whose frames are masked by these keys.
+pub(crate) type Socket<S, K> = WebSocket<Heard<S>, K>;
 
 /// Why a call on a socket gave nothing.
 #[derive(Clone, Copy, Debug, PartialEq, Eq)]
-pub(crate) enum Broken {
+pub enum Broken {
     /// Memory was refused.
     Memory,
     /// Anything else.
@@ -53,8 +53,8 @@ pub(crate) fn why(error: &Error) -> Broken {
 }
 
 /// Reads one message.
-pub(crate) fn read_next<S: Read + Write + OpenStream + Drop>(
-    socket: &mut Socket<S>,
+pub(crate) fn read_next<S: Read + Write + OpenStream + Drop, K: MaskKeys + Drop>(
+    socket: &mut Socket<S, K>,
     alloc: Global,
 ) -> Result<Came, Broken>
     ensures { IfText result (ReadsText (heard_by S.remaining) socket.old socket.new) }
@@ -77,8 +77,8 @@ pub(crate) fn read_next<S: Read + Write + OpenStream + Drop>(
 }
 
 // What an error of a read stands for. What the peer can be told of it, it is told.
-fn at_error<S: Read + Write + OpenStream + Drop>(
-    socket: &mut Socket<S>,
+fn at_error<S: Read + Write + OpenStream + Drop, K: MaskKeys + Drop>(
+    socket: &mut Socket<S, K>,
     error: &Error,
 ) -> Result<Came, Broken>
     ensures { HasNoText result }
@@ -100,7 +100,10 @@ fn is_wait(cause: &io::Error) -> bool {
 }
 
 // Closes a socket for a fault of the peer's frames, with its code.
-fn refuse<S: Read + Write + OpenStream + Drop>(socket: &mut Socket<S>, code: CloseCode) -> Broken {
+fn refuse<S: Read + Write + OpenStream + Drop, K: MaskKeys + Drop>(
+    socket: &mut Socket<S, K>,
+    code: CloseCode,
+) -> Broken {
     let told = socket.close(Some(CloseFrame {
         code,
         reason: Utf8Bytes::new(),
@@ -113,7 +116,7 @@ fn refuse<S: Read + Write + OpenStream + Drop>(socket: &mut Socket<S>, code: Clo
 
 // Reads what the peer still sends, and drops it, within bounds. Else the system would reset the stream
 // under the close, and the peer wouldn't see its code.
-fn drop_rest<S: Read + Write + OpenStream + Drop>(socket: &mut Socket<S>) {
+fn drop_rest<S: Read + Write + OpenStream + Drop, K: MaskKeys + Drop>(socket: &mut Socket<S, K>) {
     if socket.get_ref().stream.shutdown(Shutdown::Write).is_err() {
         return;
     }
@@ -135,8 +138,8 @@ fn drop_rest<S: Read + Write + OpenStream + Drop>(socket: &mut Socket<S>) {
 }
 
 /// Sends a text.
-pub(crate) fn send_text<S: Read + Write + Drop>(
-    socket: &mut Socket<S>,
+pub(crate) fn send_text<S: Read + Write + Drop, K: MaskKeys + Drop>(
+    socket: &mut Socket<S, K>,
     alloc: Global,
     words: &str,
 ) -> Result<(), Broken>
@@ -153,7 +156,9 @@ pub(crate) fn send_text<S: Read + Write + Drop>(
 }
 
 /// Sends a ping, which asks the peer for an answer.
-pub(crate) fn send_ping<S: Read + Write + Drop>(socket: &mut Socket<S>) -> Result<(), Broken> {
+pub(crate) fn send_ping<S: Read + Write + Drop, K: MaskKeys + Drop>(
+    socket: &mut Socket<S, K>,
+) -> Result<(), Broken> {
     match socket.send(Message::Ping(Bytes::new())) {
         Ok(()) => Ok(()),
         Err(error) => Err(why(&error)),
@@ -161,8 +166,8 @@ pub(crate) fn send_ping<S: Read + Write + Drop>(socket: &mut Socket<S>) -> Resul
 }
 
 /// Closes a socket for a reason of the room.
-pub(crate) fn close_for<S: Read + Write + Drop>(
-    socket: &mut Socket<S>,
+pub(crate) fn close_for<S: Read + Write + Drop, K: MaskKeys + Drop>(
+    socket: &mut Socket<S, K>,
     reason: EndReason,
 ) -> Result<(), Broken>
     ensures { OnOk result (Writes (heard_by S.contents) socket.old socket.new
@@ -179,7 +184,7 @@ pub(crate) fn close_for<S: Read + Write + Drop>(
 }
 
 /// Reads and drops messages up to the answer to a close, within a number of messages and waits.
-pub(crate) fn await_answer<S: Read + Write + Drop>(socket: &mut Socket<S>) {
+pub(crate) fn await_answer<S: Read + Write + Drop, K: MaskKeys + Drop>(socket: &mut Socket<S, K>) {
     for _ in 0..CLOSE_WAITS {
         match socket.read() {
             Ok(_) => {}

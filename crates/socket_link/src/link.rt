@@ -6,6 +6,7 @@ ghost use Rattle.socket_link.specs.Wires.{WireReads, WireSends, WireCloses};
 
 use crate::counting::stop_for;
 use crate::exchange::{Broken, Came};
+use crate::side::{ClientSide, Side};
 use crate::silence::{Asks, Silence};
 use crate::wire::Wire;
 use room_link::link::Link;
@@ -14,30 +15,35 @@ use std::alloc::Global;
 use std::io::{Read, Write};
 use std::net::OpenStream;
 use sync_msgs::EndReason;
+use tungstenite::NoMask;
 
-/// A server's link over a WebSocket. It tells nothing of what is left and what it sent; a text that it
-/// gives is one that its socket read, and what it sends goes into its socket.
+/// A link over a WebSocket, of the side `K`: a server's, unless it is said. It tells nothing of what is
+/// left and what it sent; a text that it gives is one that its socket read, and what it sends goes into
+/// its socket.
 #[derive(Drop)]
-pub struct SocketLink<S> {
+pub struct SocketLink<S, K = NoMask> {
     alloc: Global,
-    wire: Wire<S>,
+    wire: Wire<S, K>,
     silence: Silence,
     // Whether the link was closed, and the answer is still to be awaited.
     is_closing: bool,
     faults: u64,
 }
 
-impl<S: Read + Write + OpenStream + Drop> SocketLink<S> {
+/// A client's link over a WebSocket.
+pub type ClientLink<S, M> = SocketLink<S, ClientSide<M>>;
+
+impl<S: Read + Write + OpenStream + Drop, K: Side> SocketLink<S, K> {
     ghost use Rattle.socket_link.specs.Links.{link_faults, IfGivesText};
 
-    /// A link over a stream on which nothing was read or written. The handshake is made at the first
-    /// call.
-    pub fn new(alloc: Global, stream: S) -> SocketLink<S>
+    /// A link over a stream on which nothing was read or written. The handshake of its side is made at
+    /// the first call.
+    pub fn new(alloc: Global, stream: S, side: K) -> SocketLink<S, K>
         ensures { link_faults result ≡ 0 }
     {
         SocketLink {
             alloc,
-            wire: Wire::Fresh(stream),
+            wire: Wire::Fresh(stream, side),
             silence: Silence::new(),
             is_closing: false,
             faults: 0,
@@ -71,7 +77,7 @@ impl<S: Read + Write + OpenStream + Drop> SocketLink<S> {
     }
 }
 
-impl<S: Read + Write + OpenStream + Drop> Link for SocketLink<S> {
+impl<S: Read + Write + OpenStream + Drop, K: Side> Link for SocketLink<S, K> {
     ghost use Rattle.socket_link.specs.Links.{link_faults, wire_of, IfGivesText};
 
     ghost faults = { link_faults };
@@ -84,7 +90,7 @@ impl<S: Read + Write + OpenStream + Drop> Link for SocketLink<S> {
     fn next(&mut self) -> Result<Incoming, Stop>
         // A text is one that the socket read.
         ensures given { IfGivesText result
-            (WireReads (heard_by S.remaining) (wire_of self.old) (wire_of self.new)) }
+            (WireReads K.role (heard_by S.remaining) (wire_of self.old) (wire_of self.new)) }
 
         // As at any link.
         ensures faults_stay { link_faults self.old ≤ link_faults self.new }
@@ -109,7 +115,7 @@ impl<S: Read + Write + OpenStream + Drop> Link for SocketLink<S> {
     fn send(&mut self, text: &str) -> Result<(), Stop>
         // The text went into the socket.
         ensures sent { OnOk result
-            (WireSends (heard_by S.contents) (wire_of self.old) (wire_of self.new) text.now) }
+            (WireSends K.role (heard_by S.contents) (wire_of self.old) (wire_of self.new) text.now) }
 
         // As at any link.
         ensures faults_stay { link_faults self.old ≤ link_faults self.new }
@@ -125,7 +131,7 @@ impl<S: Read + Write + OpenStream + Drop> Link for SocketLink<S> {
     fn close(&mut self, reason: EndReason) -> Result<(), Stop>
         // The close went into the socket.
         ensures closed { OnOk result
-            (WireCloses (heard_by S.contents) (wire_of self.old) (wire_of self.new) reason) }
+            (WireCloses K.role (heard_by S.contents) (wire_of self.old) (wire_of self.new) reason) }
 
         // As at any link.
         ensures faults_stay { link_faults self.old ≤ link_faults self.new }

@@ -10,6 +10,7 @@ use room_link::passing::Stop;
 use std::alloc::Global;
 use std::io::{ErrorKind, Read, Write};
 use std::net::{OpenListener, OpenStream};
+use tungstenite::NoMask;
 
 /// A worker that accepts a number of links from a listener, which other workers may share. It tells
 /// nothing of which links these are.
@@ -81,7 +82,7 @@ where
         }
         self.links -= 1;
         match accepted(self.listener) {
-            Some(stream) => Ok(Some(SocketLink::new(self.alloc, stream))),
+            Some(stream) => Ok(Some(SocketLink::new(self.alloc, stream, NoMask))),
             None => Err(counted(&mut self.faults)),
         }
     }
