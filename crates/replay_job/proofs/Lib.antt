@@ -1,0 +1,14 @@
+pub mod AskedLemmas
+pub mod CaughtUpLemmas
+pub mod DecideLemmas
+pub mod EndingLemmas
+pub mod EveryTextLemmas
+pub mod FaultTextLemmas
+pub mod GoingLemmas
+pub mod LineLemmas
+pub mod OneTextLemmas
+pub mod ProceedingLemmas
+pub mod SchemaLemmas
+pub mod TakingLemmas
+pub mod VecLemmas
+pub mod WritingLemmas
