@@ -1,0 +1,14 @@
+pub mod SeekLemmas
+pub mod ComingLemmas
+pub mod SaveLemmas
+pub mod BeginLemmas
+pub mod RangeLemmas
+pub mod RestoreLemmas
+pub mod WorldLemmas
+pub mod StatusLemmas
+pub mod SavedTextLemmas
+pub mod OneSavedTextLemmas
+pub mod SameRoomLemmas
+pub mod OneRestoredTextLemmas
+pub mod PartLemmas
+pub mod RestoredTextLemmas
