@@ -1,55 +1,40 @@
--- What the end of a replay says of its status.
-use Rattle.std.proofs.Common.{◌≡◌, ℕ, ◌⊎◌, List, Bool, Option, None, Some, Ok, Err, refl, subst, inl, inr, arith}
-use Rattle.rooms.specs.Runs.{IsStatus, IsReplayStatus, IsMakeStatus, Makes, MakesFront, WritesAll, Prints, status_code}
-use Rattle.rooms.specs.declared.job.Job.TheVariants.{Replay, Make, Serve}
-use Rattle.rooms.specs.declared.play.End.{End}
-use Rattle.rooms.specs.declared.play.End.TheVariants.{Done, Refused}
-use Rattle.rooms.specs.declared.play.Stop.{Stop}
-use Rattle.rooms.specs.declared.play.Stop.TheVariants.{SourceFailed, SinkFailed, OutOfMemory}
-use Rattle.world_views.specs.declared.viewed.ViewedWorld.{ViewedWorld}
+-- What the status of a job says, and for which job words ask.
+use Rattle.std.proofs.Common.{◌≡◌, ◌≤◌, ℕ, List, [], ◌∷◌, length, map, Bool, false, Option, None, Some, refl, ap, subst, inl, inr, arith}
+use Rattle.std.proofs.Math.Dec.{eqb}
+use Rattle.std.proofs.lemmas.Bool.{eq-eqb}
+use Rattle.join_job.specs.Working.{IsJoinStatus}
+use Rattle.join_job.specs.declared.ending.JoinEnd.TheVariants as join
+use Rattle.replay_job.specs.Endings.{IsReplayStatus}
+use Rattle.make_job.specs.Outcomes.{IsMakeStatus, Makes, MakesFront}
+use Rattle.rooms.specs.Jobs.{job_named}
+use Rattle.rooms.specs.Runs.{IsStatus}
+use Rattle.rooms.specs.declared.job.Job.{Job}
+use Rattle.rooms.specs.declared.job.Job.TheVariants.{Replay, Save, Restore, Make, Serve, Join}
 
--- a recording that was read has status 0 or 3
-pub read_status : (e : End) → IsReplayStatus (status_code (Ok e))
-read_status Done = inl refl
-read_status Refused = inr (inl refl)
+-- a replay's status is one of the program
+pub replay_status : (s : ℕ) → IsReplayStatus s → IsStatus s
+replay_status s is = inr (inr (inr (inr is)))
 
-pub stopped_status : (s : Stop) → IsReplayStatus (status_code (Err s))
-stopped_status SourceFailed = inr (inr (inl refl))
-stopped_status SinkFailed = inr (inr (inr (inl refl)))
-stopped_status OutOfMemory = inr (inr (inr (inr refl)))
+-- a client's status is one of the program, and not that of words that ask for nothing
+pub join_status : (s : ℕ) → IsJoinStatus s → IsStatus s
+join_status s (inl is) = inr (inl is)
+join_status s (inr (join.Done, is)) = replay_status s (inl is)
+join_status s (inr (join.Refused, is)) = replay_status s (inr (inl is))
+join_status s (inr (join.Read, is)) = replay_status s (inr (inr (inl is)))
+join_status s (inr (join.Write, is)) = replay_status s (inr (inr (inr (inl is))))
+join_status s (inr (join.Memory, is)) = replay_status s (inr (inr (inr (inr is))))
+join_status s (inr (join.Link, is)) = inr (inr (inl is))
+join_status s (inr (join.Server, is)) = inr (inr (inr (inl is)))
 
--- and neither 4, 5 nor 6
-pub read_is_not_stopped : (e : End) → (status_code (Ok e) ≡ 4) ⊎ (status_code (Ok e) ≡ 5) ⊎ (status_code (Ok e) ≡ 6) → ⊥
-read_is_not_stopped Done (inl is) = absurd (omega (arith, is))
-read_is_not_stopped Done (inr (inl is)) = absurd (omega (arith, is))
-read_is_not_stopped Done (inr (inr is)) = absurd (omega (arith, is))
-read_is_not_stopped Refused (inl is) = absurd (omega (arith, is))
-read_is_not_stopped Refused (inr (inl is)) = absurd (omega (arith, is))
-read_is_not_stopped Refused (inr (inr is)) = absurd (omega (arith, is))
-
-pub stopped_is_not_read : (s : Stop) → (status_code (Err s) ≡ 0) ⊎ (status_code (Err s) ≡ 3) → ⊥
-stopped_is_not_read SourceFailed (inl is) = absurd (omega (arith, is))
-stopped_is_not_read SourceFailed (inr is) = absurd (omega (arith, is))
-stopped_is_not_read SinkFailed (inl is) = absurd (omega (arith, is))
-stopped_is_not_read SinkFailed (inr is) = absurd (omega (arith, is))
-stopped_is_not_read OutOfMemory (inl is) = absurd (omega (arith, is))
-stopped_is_not_read OutOfMemory (inr is) = absurd (omega (arith, is))
-
--- 4 is that of a source that failed, 5 that of a sink
-pub source_failed : (s : Stop) → status_code (Err s) ≡ 4 → s ≡ SourceFailed
-source_failed SourceFailed is = refl
-source_failed SinkFailed is = absurd (omega (arith, is))
-source_failed OutOfMemory is = absurd (omega (arith, is))
-
-pub sink_failed : (s : Stop) → status_code (Err s) ≡ 5 → s ≡ SinkFailed
-sink_failed SourceFailed is = absurd (omega (arith, is))
-sink_failed SinkFailed is = refl
-sink_failed OutOfMemory is = absurd (omega (arith, is))
-
--- what is said of sink and world is said of the sink
-pub prints : (trace : Bool) (left : Option (List ℕ)) (status : ℕ) (world : Option ViewedWorld) (old new : Option (List ℕ)) → WritesAll trace left status world old new → Prints trace left status old new
-prints trace None status world old new all = tt
-prints trace (Some recording) status world old new all = (all.0, all.1, all.2, all.4)
+pub join_is_asked : (s : ℕ) → IsJoinStatus s → s ≡ 2 → ⊥
+join_is_asked s (inl is) two = absurd (omega (arith, is, two))
+join_is_asked s (inr (join.Done, is)) two = absurd (omega (arith, is, two))
+join_is_asked s (inr (join.Refused, is)) two = absurd (omega (arith, is, two))
+join_is_asked s (inr (join.Read, is)) two = absurd (omega (arith, is, two))
+join_is_asked s (inr (join.Write, is)) two = absurd (omega (arith, is, two))
+join_is_asked s (inr (join.Memory, is)) two = absurd (omega (arith, is, two))
+join_is_asked s (inr (join.Link, is)) two = absurd (omega (arith, is, two))
+join_is_asked s (inr (join.Server, is)) two = absurd (omega (arith, is, two))
 
 -- a replay's status isn't that of words that ask for nothing
 pub replay_is_asked : (s : ℕ) → IsReplayStatus s → s ≡ 2 → ⊥
@@ -61,9 +46,9 @@ replay_is_asked s (inr (inr (inr (inr is)))) two = absurd (omega (arith, is, two
 
 -- the statuses of a made recording are those of the program, and neither 2, 3 nor 4
 pub make_status : (s : ℕ) → IsMakeStatus s → IsStatus s
-make_status s (inl is) = inr (inr (inl is))
-make_status s (inr (inl is)) = inr (inr (inr (inr (inr (inl is)))))
-make_status s (inr (inr is)) = inr (inr (inr (inr (inr (inr is)))))
+make_status s (inl is) = replay_status s (inl is)
+make_status s (inr (inl is)) = replay_status s (inr (inr (inr (inl is))))
+make_status s (inr (inr is)) = replay_status s (inr (inr (inr (inr is))))
 
 pub make_is_asked : (s : ℕ) → IsMakeStatus s → s ≡ 2 → ⊥
 make_is_asked s (inl is) two = absurd (omega (arith, is, two))
@@ -74,11 +59,6 @@ pub make_reads_nothing : (s : ℕ) → IsMakeStatus s → s ≡ 4 → ⊥
 make_reads_nothing s (inl is) four = absurd (omega (arith, is, four))
 make_reads_nothing s (inr (inl is)) four = absurd (omega (arith, is, four))
 make_reads_nothing s (inr (inr is)) four = absurd (omega (arith, is, four))
-
-pub make_stopped : (s : Stop) → (s ≡ SourceFailed → ⊥) → IsMakeStatus (status_code (Err s))
-make_stopped SourceFailed sink = absurd (sink refl)
-make_stopped SinkFailed sink = inr (inl refl)
-make_stopped OutOfMemory sink = inr (inr refl)
 
 -- what words ask for they ask for alone
 pub same_trace : (a b : Bool) → Some (Replay a) ≡ Some (Replay b) → a ≡ b
@@ -97,16 +77,39 @@ unmade_as a b m n p q old new is made =
     let same = same_make a b m n p q is in
     subst (λ x. MakesFront x n q old new) same.0 (subst (λ x. MakesFront a x q old new) same.1 (subst (λ x. MakesFront a m x old new) same.2 made))
 
-pub not_both : (trace : Bool) (seed size : ℕ) (print : Bool) → Some (Replay trace) ≡ Some (Make seed size print) → ⊥
-not_both trace seed size print is = cc
+-- the rows of the usage, by numbers
+abbrev pub row : Job → ℕ
+row (Replay trace) = 0
+row Save = 1
+row Restore = 2
+row (Make seed size print) = 3
+row (Serve port workers rooms links) = 4
+row (Join port room) = 5
 
--- nor do they ask for a replay and a server, or a recording and a server
-pub not_replayed : (trace : Bool) (port workers rooms links : ℕ) → Some (Replay trace) ≡ Some (Serve port workers rooms links) → ⊥
-not_replayed trace port workers rooms links is = cc
+-- what was found for words is the job that they ask for, and they ask for none of another row
+pub asks : {o r : Option Job} {j a : Job} → r ≡ o → r ≡ Some j → j ≡ a → o ≡ Some a
+asks named found is = cc
 
-pub not_made : (seed size : ℕ) (print : Bool) (port workers rooms links : ℕ) → Some (Make seed size print) ≡ Some (Serve port workers rooms links) → ⊥
-not_made seed size print port workers rooms links is = cc
+pub asks_other : {o r : Option Job} {j a b : Job} → r ≡ o → r ≡ Some j → j ≡ a → o ≡ Some b → eqb (row a) (row b) ≡ false → ⊥
+asks_other {o} {r} {j} {a} {b} named found is other differ =
+    let same : a ≡ b = cc in
+    let rows = eq-eqb (row a) (row b) (ap row same) in
+    absurd (cc)
 
 -- how many rooms a server has
 pub same_rooms : (port workers rooms links p w r l : ℕ) → Some (Serve port workers rooms links) ≡ Some (Serve p w r l) → rooms ≡ r
 same_rooms port workers rooms links p w r l is = cc
+
+-- which room a client joins
+pub same_room : (port room p r : ℕ) → Some (Join port room) ≡ Some (Join p r) → room ≡ r
+same_room port room p r is = cc
+
+-- six words or more ask for nothing
+pub too_many : {A : Type 0} (f : A → List ℕ) (words : List A) → 6 ≤ length words → job_named (map f words) ≡ None
+too_many f [] many = absurd (omega (arith, many))
+too_many f (a ∷ []) many = absurd (omega (arith, many))
+too_many f (a ∷ b ∷ []) many = absurd (omega (arith, many))
+too_many f (a ∷ b ∷ d ∷ []) many = absurd (omega (arith, many))
+too_many f (a ∷ b ∷ d ∷ e ∷ []) many = absurd (omega (arith, many))
+too_many f (a ∷ b ∷ d ∷ e ∷ g ∷ []) many = absurd (omega (arith, many))
+too_many f (a ∷ b ∷ d ∷ e ∷ g ∷ h ∷ rest) many = refl

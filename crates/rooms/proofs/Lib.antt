@@ -1,17 +1,2 @@
-pub mod GoingLemmas
-pub mod TakingLemmas
-pub mod ProceedingLemmas
-pub mod WritingLemmas
 pub mod EndingLemmas
 pub mod NumberLemmas
-pub mod CaughtUpLemmas
-pub mod MadeLemmas
-pub mod ReadyLemmas
-pub mod OneTextLemmas
-pub mod DecideLemmas
-pub mod VecLemmas
-pub mod AskedLemmas
-pub mod SchemaLemmas
-pub mod FaultTextLemmas
-pub mod LineLemmas
-pub mod EveryTextLemmas

@@ -1,12 +1,4 @@
 pub mod Numbers
 pub mod Jobs
 pub mod Words
-pub mod Texts
-pub mod Taking
-pub mod Replay
-pub mod CaughtUp
-pub mod Made
-pub mod Making
-pub mod Replies
-pub mod Proceeding
 pub mod Runs

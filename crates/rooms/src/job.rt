@@ -1,6 +1,6 @@
 //! What the words of the command line ask for.
 ghost use Rattle.std.specs.Prelude.{◌≡◌, string_bytes, map, IfSome};
-ghost use Rattle.rooms.specs.Jobs.{job_named, make_named, serve_named, HasRooms};
+ghost use Rattle.rooms.specs.Jobs.{job_named, word_named, replay_named, make_named, serve_named, join_named, numbers_named, HasRooms};
 
 use crate::numbers::number_between;
 
@@ -11,6 +11,10 @@ pub enum Job {
     Replay {
         trace: bool,
     },
+    /// The recording in the source is replayed, and the line of the room that it leaves is printed.
+    Save,
+    /// The recording in the source goes on from a saved room, whose line stands before it.
+    Restore,
     /// A recording of so many draws, 1 to 100,000, is made by a seed and stepped; with `print` it is
     /// printed, and else summed up.
     Make {
@@ -26,6 +30,11 @@ pub enum Job {
         rooms: u32,
         links: u32,
     },
+    /// The script in the source is played by a client of a room, 0 to 15, of the server on a port, 1 to 65,535.
+    Join {
+        port: u16,
+        room: u32,
+    },
 }
 
 /// The most draws of a made recording.
@@ -40,6 +49,9 @@ pub const MOST_WORKERS: u32 = 16;
 /// The most rooms of a server.
 pub const MOST_ROOMS: u32 = 16;
 
+/// The greatest number of a room.
+pub const LAST_ROOM: u32 = 15;
+
 /// The most links of a worker.
 pub const MOST_LINKS: u32 = 1_000_000;
 
@@ -50,21 +62,13 @@ pub fn job_of(words: &[String]) -> Option<Job>
     ensures rooms { IfSome result HasRooms }
 {
     match words {
-        [word] => if word.as_str() == "replay" {
-            Some(Job::Replay { trace: false })
+        [word] => alone(word.as_str()),
+        [word, flag] => if word.as_str() == "replay" {
+            replay_of(flag.as_str())
         } else {
             None
         },
-        [word, flag] => if word.as_str() == "replay" && flag.as_str() == "--trace" {
-            Some(Job::Replay { trace: true })
-        } else {
-            None
-        },
-        [word, seed, size] => if word.as_str() == "make" {
-            make_of(seed.as_str(), size.as_str(), false)
-        } else {
-            None
-        },
+        [word, first, second] => by_numbers(word.as_str(), first.as_str(), second.as_str()),
         [word, seed, size, flag] => if word.as_str() == "make" && flag.as_str() == "--print" {
             make_of(seed.as_str(), size.as_str(), true)
         } else {
@@ -80,6 +84,42 @@ pub fn job_of(words: &[String]) -> Option<Job>
         } else {
             None
         },
+        _ => None,
+    }
+}
+
+// The job that a word alone asks for.
+fn alone(word: &str) -> Option<Job>
+    ensures job { result ≡ word_named word.now }
+    ensures rooms { IfSome result HasRooms }
+{
+    match word {
+        "replay" => Some(Job::Replay { trace: false }),
+        "restore" => Some(Job::Restore),
+        _ => None,
+    }
+}
+
+// The job that a flag of `replay` asks for.
+fn replay_of(flag: &str) -> Option<Job>
+    ensures job { result ≡ replay_named flag.now }
+    ensures rooms { IfSome result HasRooms }
+{
+    match flag {
+        "--trace" => Some(Job::Replay { trace: true }),
+        "--save" => Some(Job::Save),
+        _ => None,
+    }
+}
+
+// The job that a word with two numbers asks for.
+fn by_numbers(word: &str, first: &str, second: &str) -> Option<Job>
+    ensures job { result ≡ numbers_named word.now first.now second.now }
+    ensures rooms { IfSome result HasRooms }
+{
+    match word {
+        "make" => make_of(first, second, false),
+        "join" => join_of(first, second),
         _ => None,
     }
 }
@@ -112,5 +152,18 @@ fn serve_of(port: &str, workers: &str, rooms: &str, links: &str) -> Option<Job>
         workers: workers as u32,
         rooms: rooms as u32,
         links: links as u32,
+    })
+}
+
+// The job that the numbers of a client ask for.
+fn join_of(port: &str, room: &str) -> Option<Job>
+    ensures job { result ≡ join_named port.now room.now }
+    ensures rooms { IfSome result HasRooms }
+{
+    let port = number_between(port, 1, MOST_PORT as u64)?;
+    let room = number_between(room, 0, LAST_ROOM as u64)?;
+    Some(Job::Join {
+        port: port as u16,
+        room: room as u32,
     })
 }

@@ -1,30 +1,20 @@
-//! The program `rooms`: it replays recordings of clients and a room, makes them, and serves rooms to clients.
+//! The program `rooms`: it replays recordings of clients and a room, makes them, serves rooms to clients, and joins
+//! them.
 //!
-//! `run` is the top call; its clauses say what is written, and when each status comes. A recording's
-//! lines are read one by one (`recording_lines`) and taken (`replay`): as the header, or as an event
-//! of `rec_format` that happens in a `ViewedWorld` of `world_views`. What a line prints is written
-//! (`play`, `texts`, `writing`) before the source is read on. What a recording writes is defined in
-//! `specs/`. A made recording's events come from `load_maker`; nobody watches in it, and they happen in
-//! a `World` of `sync_world` (`make`, `making`). Rooms are served by `room_server`, over the links of
-//! `socket_link` (`serving`).
+//! `run` is the top call; its clauses say what is written, and when each status comes. Recordings are
+//! replayed by `replay_job`, saved and gone on with by `snapshot_jobs`, and made by `make_job`. Rooms are served by
+//! `room_server` and joined by `join_job`, over the links of `socket_link` (`serving`).
 #![tactic(auto)]
 
 #[cfg(test)]
 mod boards;
 mod job;
-mod laws;
-mod make;
-mod making;
 mod numbers;
-mod play;
-mod replay;
 mod run;
 mod serving;
 #[cfg(test)]
 mod tests;
-mod texts;
 mod words;
-mod writing;
 
 ghost use Rattle.std.specs.Prelude.{◌≡◌, ◌↔◌, string_bytes, map, IfOk, OnOk, IfSome, MatchOption, None};
 ghost use Rattle.std.specs.Io.KnownBytes.{Appends};

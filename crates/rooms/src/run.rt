@@ -1,19 +1,25 @@
 //! The top call.
-ghost use Rattle.std.specs.Prelude.{◌≡◌, ◌<◌, ◌↔◌, ◌⊎◌, ◌^◌, ℕ, Bool, string_bytes, map, Some, None, IfSome, vec_len};
+ghost use Rattle.std.specs.Prelude.{◌≡◌, ◌≢◌, ◌<◌, ◌↔◌, ◌⊎◌, ◌^◌, ℕ, Bool, string_bytes, map, Some, None, IfSome, vec_len};
+ghost use Rattle.join_job.specs.Working.{PlaysOverWorkers, FirstFails};
 ghost use Rattle.recording_lines.specs.Lines.{most_bytes};
-ghost use Rattle.rooms.specs.CaughtUp.{CaughtUpPrintTheRoom};
+ghost use Rattle.replay_job.specs.CaughtUp.{CaughtUpPrintTheRoom};
+ghost use Rattle.snapshot_jobs.specs.Endings.{SavesAll, SavesFront, RestoresAll, RestoresAllFront};
 ghost use Rattle.rooms.specs.Jobs.{job_named};
-ghost use Rattle.rooms.specs.Runs.{IsStatus, IsStatusOf, Prints, PrintsFront, Makes, MakesFront, Serves, TakesFront};
+ghost use Rattle.replay_job.specs.Endings.{Prints, PrintsFront, TakesFront};
+ghost use Rattle.make_job.specs.Outcomes.{Makes, MakesFront};
+ghost use Rattle.rooms.specs.Runs.{IsStatus, IsStatusOf, Serves};
 
 use crate::job::{Job, job_of};
-use crate::make::make_job;
-use crate::play::replay_job;
+use join_job::join_job;
+use make_job::make_job;
+use replay_job::replay_job;
 use room_link::accept::Accept;
 use room_link::gate::Gate;
 use room_link::sink::Sink;
 use room_link::source::Source;
 use room_server::serve_job;
 use rooms_val::Steps;
+use snapshot_jobs::{restore_job, save_job};
 use std::alloc::Global;
 use std::sync::Wait;
 use std::sync::ledger::Ledger;
@@ -23,11 +29,12 @@ use std::thread::Threads;
 pub const USAGE: u8 = 2;
 
 /// Does what the words ask for, without the program's name, and returns the status with which the
-/// program ends: 0 where the job is done, 2 where the words ask for none, 3 where the recording is
-/// refused, 4 where the source failed, 5 where the sink failed, 6 where memory was refused, 7 where a
-/// worker failed. It costs what the job does. What a recording writes has a line for each view that a
+/// program ends: 0 where the job is done, 2 where the words ask for none, 3 where the recording or the
+/// script is refused, 4 where the source failed, 5 where the sink failed, 6 where memory was refused, 7
+/// where a worker failed, 8 where the link failed, 9 where a text of the room is refused. It costs what the job does. What a recording writes has a line for each view that a
 /// client watches, whenever the view changes. A server serves the links of the workers, which wait at
-/// the gate; how many links a worker has is not read from the words here.
+/// the gate; how many links a worker has is not read from the words here. A client joins over the next
+/// link of the first worker, and plays its script there; without one it plays over a link that has ended.
 pub fn run<
     R: Threads + Wait + Sync,
     S: Source,
@@ -51,7 +58,7 @@ where
     ensures known { IsStatus result }
 
     // 2 comes exactly where the words ask for no job, and then nothing is read or written. A made
-    // recording ends with 0, 5 or 6, a server with 0, 5, 6 or 7.
+    // recording ends with 0, 5 or 6, a server with 0, 5, 6 or 7, and a client with 0 or 3 to 9.
     ensures usage { (result ≡ 2) ↔ (job_named (map string_bytes words.now) ≡ None) }
     ensures statuses { IsStatusOf (job_named (map string_bytes words.now)) result }
     ensures untouched { result ≡ 2 → (source.new ≡ source.old) × (sink.new ≡ sink.old) × (workers.new ≡ workers.old) }
@@ -70,6 +77,22 @@ where
     // the room's document.
     ensures shown { (trace : Bool) → job_named (map string_bytes words.now) ≡ Some (Job.Replay trace)
         → IfSome (S.left source.old) (CaughtUpPrintTheRoom trace) }
+
+    // A recording that is saved: on 0 and 3 the line of the room that it leaves is written, or the fault line alone, and the
+    // status is the recording's; on 4, 5 and 6 a front of that is written.
+    ensures saved { job_named (map string_bytes words.now) ≡ Some Job.Save → (result ≡ 0) ⊎ (result ≡ 3)
+        → SavesAll (S.left source.old) result (K.held sink.old) (K.held sink.new) }
+    ensures unsaved { job_named (map string_bytes words.now) ≡ Some Job.Save
+        → (result ≡ 4) ⊎ (result ≡ 5) ⊎ (result ≡ 6)
+        → SavesFront (S.left source.old) (K.held sink.old) (K.held sink.new) }
+
+    // A recording that goes on from a saved room: on 0 and 3 what that writes is written, and the status is the
+    // recording's; on 4, 5 and 6 a front of it is written.
+    ensures restored { job_named (map string_bytes words.now) ≡ Some Job.Restore → (result ≡ 0) ⊎ (result ≡ 3)
+        → RestoresAll (S.left source.old) result (K.held sink.old) (K.held sink.new) }
+    ensures unrestored { job_named (map string_bytes words.now) ≡ Some Job.Restore
+        → (result ≡ 4) ⊎ (result ≡ 5) ⊎ (result ≡ 6)
+        → RestoresAllFront (S.left source.old) (K.held sink.old) (K.held sink.new) }
 
     // A made recording: on 0 what is made by the seed is written, on 5 and 6 a front of it; and
     // nothing is read.
@@ -91,6 +114,16 @@ where
         → Serves A.Link.faults A.Link.told A.faults A.told rooms workers.old.items workers.new.items
         (K.held sink.old) (K.held sink.new) (K.faults sink.old) (K.faults sink.new) result }
 
+    // A client: the script was played over the next link of the first worker, which got it back, where that tells its links; where
+    // no worker is, or no link was left, over a link that has ended. The status is how it ended. On 7 the worker failed: no link was
+    // handed out, and nothing was read or written.
+    ensures joined { (port room : ℕ) → job_named (map string_bytes words.now) ≡ Some (Job.Join port room)
+        → result ≢ 7 → PlaysOverWorkers A.Link.faults A.Link.told A.told room (S.left source.old)
+        (K.held sink.old) (K.held sink.new) result workers.old.items workers.new.items }
+    ensures unjoined { (port room : ℕ) → job_named (map string_bytes words.now) ≡ Some (Job.Join port room)
+        → result ≡ 7 → FirstFails A.faults A.told workers.old.items workers.new.items
+        × (source.new ≡ source.old) × (sink.new ≡ sink.old) }
+
     // On every status the source held a front of at most 2^30 bytes, followed by what it holds.
     ensures reads { TakesFront most_bytes (S.left source.old) (S.left source.new) }
 
@@ -102,8 +135,11 @@ where
         None => USAGE,
         Some(job) => match job {
             Job::Replay { trace } => replay_job(alloc, trace, source, sink, steps).status,
+            Job::Save => save_job(alloc, source, sink, steps),
+            Job::Restore => restore_job(alloc, source, sink, steps),
             Job::Make { seed, size, print } => make_job(alloc, seed, size, print, sink, steps),
             Job::Serve { rooms, .. } => serve_job(rt, alloc, rooms, sink, workers, gate).status,
+            Job::Join { room, .. } => join_job(alloc, room, workers, source, sink, steps),
         },
     }
 }

@@ -1,4 +1,4 @@
-//! Starting a run: over standard input and output, and for a server over the listener.
+//! Starting a run: over standard input and output, for a server over a listener, and for a client over a connection.
 ghost use Rattle.std.specs.Prelude.{◌≡◌, ◌≢◌, ◌<◌, ◌↔◌, ◌^◌, string_bytes, map, vec_len, None, IfOk};
 ghost use Rattle.rooms.specs.Jobs.{job_named};
 ghost use Rattle.rooms.specs.Runs.{IsStatus};
@@ -11,6 +11,7 @@ use room_link::memory_accept::SteadyAccept;
 use room_link::memory_link::SteadyLink;
 use room_link::standard::{StandardInput, StandardOutput};
 use rooms_val::{Mem, Steps};
+use socket_link::connecting::{ConnectingWorker, LocalPort};
 use socket_link::worker::ListenerWorker;
 use std::alloc::Global;
 use std::io;
@@ -19,16 +20,17 @@ use std::net::TcpListener;
 use std::sync::Wait;
 use std::sync::ledger::{Blank, Ledger};
 use std::thread::Threads;
+use tungstenite::RandomKeys;
 
-// The statuses of a server that has no memory for its workers, and of one that can't listen.
+// The statuses of who has no memory for workers, and of a server that can't listen.
 const OUT_OF_MEMORY: u8 = 6;
 
 const CANNOT_LISTEN: u8 = 7;
 
-// The status of a server of which a worker failed.
+// The status of a server of which a worker failed, and of a client that can't connect.
 const WORKER_FAILED: u8 = 7;
 
-/// Does what the words ask for: a server listens first.
+/// Does what the words ask for: a server listens first, and a client has a worker that connects.
 pub(crate) fn started<R: Threads + Wait + Sync, L: Ledger>(
     host: &HostRuntime,
     rt: &R,
@@ -50,6 +52,7 @@ pub(crate) fn started<R: Threads + Wait + Sync, L: Ledger>(
                 ..
             },
         ) => listens::<R, L>(host, rt, words, port, workers, links, blank),
+        Some(Job::Join { port, .. }) => connects::<R, L>(host, rt, words, port, blank),
         _ => {
             let mut workers = Vec::new(host.alloc());
             runs::<R, SteadyAccept<SteadyLink>, L>(host, rt, words, &mut workers, blank)
@@ -94,6 +97,38 @@ fn listens<R: Threads + Wait + Sync, L: Ledger>(
     );
     if status == WORKER_FAILED {
         tell(host, "rooms: a worker failed\n");
+    }
+    status
+}
+
+// Runs with one worker, which connects to a port of this machine.
+fn connects<R: Threads + Wait + Sync, L: Ledger>(
+    host: &HostRuntime,
+    rt: &R,
+    words: &[String],
+    port: u16,
+    blank: Blank,
+) -> u8
+    requires name { blank.name ≡ L.name }
+    requires parts { blank.parts ≡ L.parts }
+    requires some { 0 < blank.parts }
+    requires asked { job_named (map string_bytes words.now) ≢ None }
+    ensures usage { result ≢ 2 }
+    ensures known { IsStatus result }
+{
+    let connector = LocalPort::new(host, port);
+    let keys = RandomKeys::new(host);
+    let Ok(mut workers) = Vec::with_capacity(host.alloc(), 1) else {
+        return OUT_OF_MEMORY;
+    };
+    workers.push_reserved(ConnectingWorker::new(host.alloc(), connector, keys));
+    let status = runs::<
+        R,
+        ConnectingWorker<LocalPort<'_, HostRuntime>, RandomKeys<&HostRuntime>>,
+        L,
+    >(host, rt, words, &mut workers, blank);
+    if status == WORKER_FAILED {
+        tell(host, "rooms: cannot connect\n");
     }
     status
 }

@@ -56,6 +56,47 @@ BASE; {"client":0,"diff":{"shape:a":["put",GEO50,SIDE3,"y":0}]},"do":"edit"}; HA
 {"recording":1,"version":4}; {"do":"client","version":4}; C; OPEN; {"client":1,"do":"connect","readonly":false}; {"do":"handle","session":1}; {"do":"send","session":1}; {"client":1,"do":"deliver"}; {"client":0,"diff":{"asset:i":["put",{"id":"asset:i","meta":{},"props":{"dims":{"h":20,"w":30},"mimeType":null,"name":"i","src":null},"type":"image","typeName":"asset"}]},"do":"edit"}; HANDLE; SEND; DELIVER; {"do":"send","session":1}; {"client":1,"do":"deliver"}; {"client":1,"do":"show"}; {"client":1,"diff":{"asset:i":["patch",{"props":["patch",{"w":["put",40]}]}]},"do":"edit"}; {"do":"handle","session":1}; {"do":"send","session":1}; END | {"from":0,"message":{"connectRequestId":"0","lastServerClock":-1,"protocolVersion":2,"schema":{"schemaVersion":2,"sequences":{"rooms.asset":1,"rooms.base":1,"rooms.binding":1,"rooms.shape":2}},"type":"connect"}}; {"message":{"connectRequestId":"0","diff":{},"hydrationType":"wipe_all","isReadonly":false,"protocolVersion":2,"schema":{"schemaVersion":2,"sequences":{"rooms.asset":1,"rooms.base":1,"rooms.binding":1,"rooms.shape":2}},"serverClock":0,"type":"connect"},"to":0}; {"from":1,"message":{"connectRequestId":"1","lastServerClock":-1,"protocolVersion":2,"schema":SCHEMA,"type":"connect"}}; {"message":{"connectRequestId":"1","diff":{},"hydrationType":"wipe_all","isReadonly":false,"protocolVersion":2,"schema":{"schemaVersion":2,"sequences":{"rooms.asset":1,"rooms.base":1,"rooms.binding":1,"rooms.shape":2}},"serverClock":0,"type":"connect"},"to":1}; {"from":0,"message":{"clientClock":1,"diff":{"asset:i":["put",{"id":"asset:i","meta":{},"props":{"dims":{"h":20,"w":30},"mimeType":null,"name":"i","src":null},"type":"image","typeName":"asset"}]},"type":"push"}}; {"message":{"data":[{"action":"commit","clientClock":1,"serverClock":1,"type":"push_result"}],"type":"data"},"to":0}; {"message":{"data":[{"diff":{"asset:i":["put",{"id":"asset:i","meta":{},"props":{"h":20,"mimeType":null,"name":"i","src":null,"w":30},"type":"image","typeName":"asset"}]},"serverClock":1,"type":"patch"}],"type":"data"},"to":1}; {"clock":1,"doc":{"asset:i":{"id":"asset:i","meta":{},"props":{"h":20,"mimeType":null,"name":"i","src":null,"w":30},"type":"image","typeName":"asset"}},"others":{},"owed":0,"show":1}; {"from":1,"message":{"clientClock":1,"diff":{"asset:i":["patch",{"props":["patch",{"w":["put",40]}]}]},"type":"push"}}; {"message":{"data":[{"action":{"rebaseWithDiff":{"asset:i":["put",{"id":"asset:i","meta":{},"props":{"h":20,"mimeType":null,"name":"i","src":null,"w":40},"type":"image","typeName":"asset"}]}},"clientClock":1,"serverClock":2,"type":"push_result"}],"type":"data"},"to":1}; {"clock":2,"doc":{"asset:i":{"id":"asset:i","meta":{},"props":{"dims":{"h":20,"w":40},"mimeType":null,"name":"i","src":null},"type":"image","typeName":"asset"}},"end":true,"presence":{}} | 0
 "#;
 
+// The same of `replay --save`.
+const SAVES: &str = r#"
+H; C; OPEN; SHOW; PUT; SHOW; HANDLE; SEND; DELIVER; SHOW; END | SAVED | 0
+H; C; OPEN; {"client":0,"diff":{"page:p":["put",PAGE],"shape:a":["put",GEO100,SIDE0,"y":0}]},"do":"edit"}; HANDLE; SEND; DELIVER; {"client":0,"diff":{"shape:a":["remove"]},"do":"edit"}; HANDLE; END | {"clock":2,"documents":[{"lastChangedClock":1,"state":PAGE}],"schema":SCHEMA,"tombstoneHistoryStartsAtClock":0,"tombstones":{"shape:a":2}} | 0
+H; C; OPEN; PUT; SHOW; END | {"clock":0,"documents":[],"schema":SCHEMA,"tombstoneHistoryStartsAtClock":0,"tombstones":{}} | 0
+H; C; SHOW; {"client":1.5,"do":"show"} | {"at":4,"fault":"NotWhole"} | 3
+H; C; COUNT; SHOW; PUT | {"at":6,"fault":"Unended"} | 3
+"#;
+
+// The same of `restore`: what is read begins with the line of a saved room.
+const RESTORES: &str = r#"
+SAVED; {"recording":1,"version":5}; {"do":"client","version":5}; OPEN; SHOW; END | {"clock":2,"doc":{"page:p":{"hidden":false,"id":"page:p","index":"a0","meta":{},"name":"P","typeName":"page"}},"others":{},"owed":0,"show":0}; {"clock":2,"doc":{"page:p":{"hidden":false,"id":"page:p","index":"a0","meta":{},"name":"P","typeName":"page"}},"end":true,"presence":{}} | 0
+SAVED; H; C; OPEN; SHOW; {"client":0,"diff":{"page:p":["patch",{"name":["put","Q"]}]},"do":"edit"}; HANDLE; END | {"clock":1,"doc":DOC,"others":{},"owed":0,"show":0}; {"clock":2,"doc":{"page:p":{"id":"page:p","index":"a0","meta":{},"name":"Q","typeName":"page"}},"end":true,"presence":{}} | 0
+;   ; SAVED; ; H; SHOW | {"at":6,"fault":"NoSuchClient"} | 3
+SAVED; ; {} | {"at":3,"fault":"NoHeader"} | 3
+SAVED | {"at":2,"fault":"Unended"} | 3
+ | {"at":1,"fault":"Unended"} | 3
+H; H | {"at":1,"fault":"Shape"} | 3
+{"clock":1.5 | {"at":1,"fault":"BadJson"} | 3
+{"clock":1.5} | {"at":1,"fault":"NotWhole"} | 3
+{"clock":0,"documents":[],"schema":{"schemaVersion":2,"sequences":{"rooms.asset":1,"rooms.base":1,"rooms.binding":1,"rooms.page":1,"rooms.shape":2}},"tombstoneHistoryStartsAtClock":0,"tombstones":{}}; H | {"at":1,"fault":"UnknownSequence rooms.asset"} | 3
+{"clock":0,"documents":[],"schema":{"schemaVersion":2,"sequences":{"rooms.base":9,"rooms.binding":1,"rooms.shape":2}},"tombstoneHistoryStartsAtClock":0,"tombstones":{}}; H | {"at":1,"fault":"TooNew rooms.base"} | 3
+{"clock":0,"documents":[{"lastChangedClock":1,"state":PAGE}],"schema":SCHEMA,"tombstoneHistoryStartsAtClock":0,"tombstones":{}}; H | {"at":1,"fault":"Clocks"} | 3
+{"clock":1,"documents":[{"lastChangedClock":1,"state":PAGE},{"lastChangedClock":1,"state":PAGE}],"schema":SCHEMA,"tombstoneHistoryStartsAtClock":0,"tombstones":{}}; H | {"at":1,"fault":"BadRecord page:p"} | 3
+{"clock":1,"documents":[{"lastChangedClock":1,"state":{}}],"schema":SCHEMA,"tombstoneHistoryStartsAtClock":0,"tombstones":{}}; H | {"at":1,"fault":"BadRecord -"} | 3
+{"clock":2,"documents":[{"lastChangedClock":1,"state":PAGE}],"schema":SCHEMA,"tombstoneHistoryStartsAtClock":0,"tombstones":{"page:p":2}}; ; H | {"at":1,"fault":"BadRecord page:p"} | 3
+{"clock":2,"documents":[],"schema":SCHEMA,"tombstoneHistoryStartsAtClock":2,"tombstones":{"page:p":2}}; H | {"at":1,"fault":"Clocks"} | 3
+"#;
+
+// The same of `join 1 0` without a worker, so that the link has ended.
+const JOINS: &str = r#"
+H; DELIVER; SHOW; PUT; SHOW; END | {"client":0,"lost":true}; NEW; {"clock":-1,"doc":DOC,"others":{},"owed":1,"show":0}; {"clock":-1,"end":true,"owed":1} | 0
+H; COUNT; PUT; ; {"client":0,"do":"undo"}; END | {"client":0,"told":0,"watch":0}; {"client":0,"undo":true}; {"clock":-1,"end":true,"owed":2} | 0
+H; DELIVER; DELIVER | {"client":0,"lost":true}; {"at":3,"fault":"NoSuchSession"} | 3
+H; SHOW1 | {"at":2,"fault":"NoSuchClient"} | 3
+H; C | {"at":2,"fault":"UnknownEvent"} | 3
+H; {"client":0,"diff":{"page:q":["remove"]},"do":"edit"} | {"at":2,"fault":"NoRecord page:q"} | 3
+H; SHOW | NEW; {"at":3,"fault":"Unended"} | 3
+SHOW | {"at":1,"fault":"NoHeader"} | 3
+"#;
+
 // What a server of a room writes whose worker has no link.
 const SERVED: &str =
     r#"{"ended":0,"faults":0,"links":0,"memory":0,"worker":0}; {"clock":0,"doc":{},"presence":{},"room":0}"#;
@@ -113,6 +154,8 @@ pub(crate) fn line(name: &str) -> &str {
             r#"{"message":{"connectRequestId":"1","diff":{},"hydrationType":"wipe_all","isReadonly":false,"protocolVersion":2,"schema":SCHEMA,"serverClock":0,"type":"connect"},"to":1}"#,
         "COMMIT" =>
             r#"{"message":{"data":[{"action":"commit","clientClock":1,"serverClock":1,"type":"push_result"}],"type":"data"},"to":0}"#,
+        "SAVED" =>
+            r#"{"clock":1,"documents":[{"lastChangedClock":1,"state":PAGE}],"schema":SCHEMA,"tombstoneHistoryStartsAtClock":0,"tombstones":{}}"#,
         "QUERY" => r#"{"client":0,"do":"query","type":"shape","where":["eq","type","draw"]}"#,
         "COUNT" => r#"{"client":0,"do":"watch","view":{"count":"page:p"}}"#,
         // A page with a frame at x 10, and a shape in it that begins 200 behind the frame's left edge.
@@ -268,6 +311,60 @@ fn traces_messages(rt: HostRuntime) -> Result<(), Fail> {
     replays_table(&rt, rt.alloc(), "replay --trace", TRACES)
 }
 
+#[test]
+fn saves_rooms(rt: HostRuntime) -> Result<(), Fail> {
+    replays_table(&rt, rt.alloc(), "replay --save", SAVES)
+}
+
+#[test]
+fn restores_rooms(rt: HostRuntime) -> Result<(), Fail> {
+    replays_table(&rt, rt.alloc(), "restore", RESTORES)
+}
+
+#[test]
+fn joins_over_a_link_that_has_ended(rt: HostRuntime) -> Result<(), Fail> {
+    replays_table(&rt, rt.alloc(), "join 1 0", JOINS)
+}
+
+// A saved room whose line is filled with blanks up to this length in bytes, and an empty recording.
+fn saved_of_length(alloc: Global, length: usize) -> Result<String, Fail> {
+    let mut text = lines(alloc, "SAVED")?;
+    let _ = text.pop();
+    for _ in text.len()..length {
+        text.push(' ')?;
+    }
+    text.push('\n')?;
+    text.push_str(lines(alloc, "H; END")?.as_str())?;
+    Ok(text)
+}
+
+#[test]
+fn refuses_a_saved_room_that_is_too_long(rt: HostRuntime) -> Result<(), Fail> {
+    let alloc = rt.alloc();
+    let longest = saved_of_length(alloc, 1 << 26)?;
+    let ended = lines(alloc, r#"{"clock":1,"doc":DOC,"end":true,"presence":{}}"#)?;
+    replays(
+        &rt,
+        alloc,
+        "restore",
+        longest.as_str(),
+        65_536,
+        ended.as_str(),
+        0,
+    )?;
+    let longer = saved_of_length(alloc, (1 << 26) + 1)?;
+    let fault = lines(alloc, r#"{"at":1,"fault":"LineTooLong"}"#)?;
+    replays(
+        &rt,
+        alloc,
+        "restore",
+        longer.as_str(),
+        65_536,
+        fault.as_str(),
+        3,
+    )
+}
+
 // A recording of which one line has so many blanks, with no newline at its end.
 fn with_blanks(alloc: Global, blanks: usize) -> Result<String, Fail> {
     let mut recording = lines(alloc, "H")?;
@@ -421,7 +518,24 @@ fn ends_where_a_write_fails(rt: HostRuntime) -> Result<(), Fail> {
     Ok(())
 }
 
-// Serves a room, with a worker that has no link, and of which a call fails: the status.
+// Runs with a worker that has no link, and of which a call fails: the status.
+fn works<R: Threads + Wait + Sync, S: Source, K: Sink>(
+    rt: &R,
+    alloc: Global,
+    words: &str,
+    call: u64,
+    source: &mut S,
+    sink: &mut K,
+) -> Result<u8, Fail> {
+    let mut workers = Vec::new(alloc);
+    workers.push(MemoryAccept {
+        accept: SteadyAccept::<SteadyLink>::new(alloc),
+        script: Script::new([call].to_vec(alloc)?),
+    })?;
+    Ok(run_for(rt, alloc, words, source, sink, &mut workers)?)
+}
+
+// Serves a room so: the status.
 fn serves<R: Threads + Wait + Sync, K: Sink>(
     rt: &R,
     alloc: Global,
@@ -429,19 +543,7 @@ fn serves<R: Threads + Wait + Sync, K: Sink>(
     sink: &mut K,
 ) -> Result<u8, Fail> {
     let mut source = SteadySource::new(Vec::new(alloc), 4096);
-    let mut workers = Vec::new(alloc);
-    workers.push(MemoryAccept {
-        accept: SteadyAccept::<SteadyLink>::new(alloc),
-        script: Script::new([call].to_vec(alloc)?),
-    })?;
-    Ok(run_for(
-        rt,
-        alloc,
-        "serve 65535 1 1 1",
-        &mut source,
-        sink,
-        &mut workers,
-    )?)
+    works(rt, alloc, "serve 65535 1 1 1", call, &mut source, sink)
 }
 
 #[test]
@@ -451,6 +553,27 @@ fn ends_where_a_worker_fails(rt: HostRuntime) -> Result<(), Fail> {
     for (call, status) in [(0u64, 7u8), (1, 0)] {
         let mut sink = SteadySink::new(alloc, 4096);
         assert_eq!(rt; serves(&rt, alloc, call, &mut sink)?, status);
+        assert_eq!(rt; sink.bytes(), written.as_bytes());
+    }
+    Ok(())
+}
+
+// A client whose worker fails reads and writes nothing; where it has no link left, the script is played over one that has ended.
+#[test]
+fn joins_by_a_worker_that_fails(rt: HostRuntime) -> Result<(), Fail> {
+    let alloc = rt.alloc();
+    let script = lines(alloc, "H; DELIVER; END")?;
+    let written = lines(
+        alloc,
+        r#"{"client":0,"lost":true}; {"clock":-1,"end":true,"owed":0}"#,
+    )?;
+    for (call, status, written) in [(0u64, 7u8, ""), (1, 0, written.as_str())] {
+        let mut source = SteadySource::new(script.as_bytes().to_vec(alloc)?, 4096);
+        let mut sink = SteadySink::new(alloc, 4096);
+        assert_eq!(rt;
+            works(&rt, alloc, "join 1 0", call, &mut source, &mut sink)?,
+            status
+        );
         assert_eq!(rt; sink.bytes(), written.as_bytes());
     }
     Ok(())
@@ -501,7 +624,7 @@ fn ends_where_a_read_fails(rt: HostRuntime) -> Result<(), Fail> {
 fn takes_no_other_words(rt: HostRuntime) -> Result<(), Fail> {
     let alloc = rt.alloc();
     let table =
-        "\nreplay x\nfly\nreplay --trace --trace\n--trace\nreplay --save\nmake\nmake 7\nmake 0 0\nmake 0 100001\nmake 18446744073709551616 1\nmake 07 1\nmake +7 1\nmake -7 1\nmake 7 01\nmake 7 1 --trace\nmake 7 1 --print --print\nserve\nserve 1 1 1\nserve 0 1 1 1\nserve 65536 1 1 1\nserve 1 0 1 1\nserve 1 17 1 1\nserve 1 1 0 1\nserve 1 1 17 1\nserve 1 1 1 0\nserve 1 1 1 1000001\nserve 01 1 1 1\nserve 1 1 1 1 1\n--help";
+        "\nreplay x\nfly\nreplay --trace --trace\n--trace\nreplay --save --trace\nrestore --save\nmake\nmake 7\nmake 0 0\nmake 0 100001\nmake 18446744073709551616 1\nmake 07 1\nmake +7 1\nmake -7 1\nmake 7 01\nmake 7 1 --trace\nmake 7 1 --print --print\nserve\nserve 1 1 1\nserve 0 1 1 1\nserve 65536 1 1 1\nserve 1 0 1 1\nserve 1 17 1 1\nserve 1 1 0 1\nserve 1 1 17 1\nserve 1 1 1 0\nserve 1 1 1 1000001\nserve 01 1 1 1\nserve 1 1 1 1 1\njoin\njoin 1\njoin 0 0\njoin 65536 0\njoin 1 16\njoin 1 00\njoin 1 +1\njoin 1 0 0\n--help";
     for words in table.split('\n') {
         let mut source = SteadySource::new(b"{}".to_vec(alloc)?, 4096);
         let mut sink = SteadySink::new(alloc, 4096);

@@ -8,21 +8,26 @@ use std::{env, io};
 
 /// The rows of words that the program takes.
 const USAGE_LINE: &str =
-    "usage: rooms replay [--trace] / make SEED SIZE [--print] / serve PORT WORKERS ROOMS LINKS\n";
+    "usage: rooms replay [--trace / --save] / restore / make SEED SIZE [--print] / serve PORT WORKERS ROOMS LINKS / join PORT ROOM\n";
 
 /// What each word means.
 pub(crate) const HELP: &str = "\
-usage: rooms replay [--trace] / make SEED SIZE [--print] / serve PORT WORKERS ROOMS LINKS
+usage: rooms replay [--trace / --save] / restore / make SEED SIZE [--print] / serve PORT WORKERS ROOMS LINKS / join PORT ROOM
 
   replay                   replays the recording on standard input, as it comes: prints what its clients show and watch,
                            and what the room holds at its end
   replay --trace           prints the messages between the clients and the room too
+  replay --save            prints the line of the saved room at the recording's end instead
+  restore                  reads the line of a saved room, and then replays a recording that goes on from that room; a room of
+                           an older version is brought to that of the recording's header
   make SEED SIZE           makes a recording of SIZE draws, 1 to 100,000, by a seed below 2^64, and prints a line: what
                            the room holds at its end, and how many events were taken and left out
   make SEED SIZE --print   prints the recording itself
   serve PORT WORKERS ROOMS LINKS
                            serves ROOMS rooms, 1 to 16, over WebSocket on 127.0.0.1:PORT, by WORKERS workers, 1 to 16: each
                            serves one client after another, up to LINKS, 1 to 1,000,000; then prints what came of them
+  join PORT ROOM           joins a room, 0 to 15, of the server on 127.0.0.1:PORT, as a client that plays the script on standard
+                           input, as it comes: sends what the client does, and prints what it shows and watches
   --help                   prints this
   --version                prints the program's name and version
 ";
@@ -70,6 +75,8 @@ fn message_of(status: u8) -> &'static str
         4 => "rooms: standard input can't be read\n",
         5 => "rooms: standard output can't be written\n",
         6 => "rooms: out of memory\n",
+        8 => "rooms: the link failed\n",
+        9 => "rooms: what the room sent is refused; the last line printed says where and why\n",
         _ => "",
     }
 }
