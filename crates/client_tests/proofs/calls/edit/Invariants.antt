@@ -1,5 +1,0 @@
-use Rattle.client_tests.proofs.calls.edit.Given as goal
-
--- the ledger is the one that the blank is of
-abbrev pub ghosts-edit_in : goal.ghosts-edit_in
-ghosts-edit_in a = record { name = a.blank.name; parts = a.blank.parts }

@@ -1,6 +1,0 @@
-use Rattle.room_run.proofs.CrossingLemmas.{crosses}
-use Rattle.part_bench.proofs.sharing.Work.TheSendSync as work
-use Rattle.part_bench.proofs.sharing.wait.Goals as goal
-
-pub map_indices-requires-sync-F : goal.map_indices-requires-sync-F
-map_indices-requires-sync-F g c κs within = search (work.the_sync, crosses) depth 40

@@ -1,5 +1,0 @@
-use Rattle.signal_tests.proofs.transactions.play_nested.Given as goal
-
--- the ledger is the one that the blank is of
-abbrev pub ghosts-play_in : goal.ghosts-play_in
-ghosts-play_in a = record { name = a.blank.name; parts = a.blank.parts }

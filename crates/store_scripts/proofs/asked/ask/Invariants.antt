@@ -1,5 +1,0 @@
-use Rattle.store_scripts.proofs.asked.ask.Given as goal
-
--- the ledger is the one that the blank is of
-abbrev pub ghosts-ask_in : goal.ghosts-ask_in
-ghosts-ask_in a = record { name = a.blank.name; parts = a.blank.parts }

@@ -1,5 +1,0 @@
-use Rattle.store_scripts.proofs.stores.write.Given as goal
-
--- the ledger is the one that the blank is of
-abbrev pub ghosts-write_in : goal.ghosts-write_in
-ghosts-write_in g a = record { name = a.blank.name; parts = a.blank.parts }

@@ -1,5 +1,0 @@
-use Rattle.store_tests.proofs.changes.since.Given as goal
-
--- the ledger is the one that the blank is of
-abbrev pub ghosts-since_in : goal.ghosts-since_in
-ghosts-since_in a = record { name = a.blank.name; parts = a.blank.parts }

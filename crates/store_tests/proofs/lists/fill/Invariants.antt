@@ -1,5 +1,0 @@
-use Rattle.std.proofs.Common.{◌≡◌, length}
-use Rattle.store_tests.proofs.lists.fill.Given as goal
-
-abbrev pub invariant-made : goal.invariant-made
-invariant-made l = length l.links.lists ≡ length l.initial.links.lists

@@ -1,5 +1,0 @@
-use Rattle.world_scripts.proofs.plays.line_answer.Given as goal
-
--- the ledger is the one that the blank is of
-abbrev pub ghosts-stepped : goal.ghosts-stepped
-ghosts-stepped a = record { name = a.blank.name; parts = a.blank.parts }
