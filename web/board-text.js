@@ -1,173 +1,103 @@
 // Typing into a shape: what is typed at the end of its text is appended, so that two people may type at once.
-//
-// An append says at which byte it goes. Where somebody else's text came there first, the room passes it over; it is then
-// appended again behind what is there.
+// An append says at which byte it goes. Where somebody else's text came there first, the room passes it over;
+// it is then appended again behind what is there.
 
-import { html, LONG, svg } from './board-draw.js';
+import { begin, board, desk, use } from './board-desk.js';
+import { byId, dress, set, wordsClass } from './board-draw.js';
+import { bytesOf } from './values.js';
 
-// An undo takes back what was typed with no longer pause than this, in milliseconds.
-const PAUSE = 1000;
+// What was appended and may be passed over: of each piece the shape, the place, and whether it was sent.
+let pieces = [];
+// The field over the shape `typed`, and what it held last. While a letter is put together it holds more.
+const area = byId('text');
+let taken = '';
 
-const ENCODER = new TextEncoder();
+area.addEventListener('input', ({ isComposing }) => isComposing || take());
+area.addEventListener('compositionend', take);
+area.addEventListener('blur', () => type(null));
+board.on('change', (ids) => queueMicrotask(() => ids.forEach(appendAgain)));
+board.on('change', showField);
+board.on('state', () => queueMicrotask(() => pieces.forEach((piece) => (piece.isSent ||= board.isOpen))));
 
-/** What is typed into the text of one shape, until it is answered. */
-class Typist {
-  #board;
-  #id;
-  // the text as it was shown last; and what was appended to it and may be passed over, each piece with its offset and size in
-  // bytes and whether it was sent, so that the room may have it in the text
-  #known;
-  #pieces;
+/** What was typed stays as it is shown: it is answered, or is taken back. */
+export function settle() { pieces = []; }
 
-  constructor(board, id) {
-    this.#board = board;
-    this.#id = id;
-    this.settle();
+const keyOf = (id) => (board.document.get(id)?.type === 'frame' ? 'name' : 'text');
+const textOf = (id) => board.document.get(id)?.props?.[keyOf(id)];
+
+/** Opens the field over a shape that has a text or a name; else closes it. */
+export function type(id) {
+  desk.typed = textOf(id) === undefined || board.document.get(id).type === 'arrow' ? null : id;
+  if (desk.typed !== null) {
+    begin('typing');
+    use('select', [id]);
   }
+  showField();
+  area.focus();
+}
 
-  /** The text as it is shown, `undefined` where its shape is gone. */
-  get text() {
-    const { text, name } = this.#board.document.get(this.#id)?.props ?? {};
-    return text ?? name;
+// Takes what was typed. An undo takes back a word. What is refused is shown no more.
+function take() {
+  const [id, before, text] = [desk.typed, taken, area.value];
+  taken = text;
+  queueMicrotask(showField);
+  if (/\s$/.test(text)) {
+    begin('typing');
   }
-
-  /** What was typed stays as it is shown: it is answered, or is taken back. */
-  settle() {
-    this.#known = this.text ?? '';
-    this.#pieces = [];
-  }
-
-  /** Makes the text another one: by an append where that has more at its end, else by a put. @throws {EditFault} */
-  type(text) {
-    const more = text.startsWith(this.#known) ? text.slice(this.#known.length) : null;
-    const offset = ENCODER.encode(this.#known).length;
-    const piece = { text: more, offset, size: ENCODER.encode(more ?? '').length, isSent: this.#board.state === 'open' };
-    const key = this.#board.document.get(this.#id).type === 'frame' ? 'name' : 'text';
-    this.#pieces = more === null ? [] : [...this.#pieces, piece];
-    this.#known = text;
-    const operation = more === null ? ['put', text] : ['append', more, offset];
-    this.#board.edit({ [this.#id]: ['patch', { props: ['patch', { [key]: operation }] }] });
-  }
-
-  /** Looks at the text after a change, and types again what was passed over. @throws {EditFault} */
-  look() {
-    const shown = this.text;
-    if (shown !== undefined && shown !== this.#known) {
-      const passed = this.#passed(shown);
-      const isOpen = this.#board.state === 'open';
-      const kept = this.#pieces.filter((piece) => !passed.includes(piece));
-      this.#pieces = kept.map((piece) => ({ ...piece, isSent: piece.isSent || isOpen }));
-      this.#known = shown;
-      if (passed.length > 0) {
-        this.#board.mark('typing');
-        this.type(shown + passed.map((piece) => piece.text).join(''));
-      }
-    }
-  }
-
-  // The pieces that aren't in the text that is shown. What is unanswered comes last in it; what was sent may be answered, and
-  // have others' text behind it.
-  #passed(shown) {
-    const bytes = ENCODER.encode(shown);
-    let end = bytes.length;
-    return this.#pieces.toReversed().filter(({ text, offset, size, isSent }) => {
-      const isThere = new TextDecoder().decode(bytes.subarray(offset, offset + size)) === text;
-      const isLast = isThere && offset + size === end;
-      end = isLast ? offset : end;
-      return !isLast && !(isThere && isSent);
-    }).toReversed();
+  if (id !== null && text !== before) {
+    put(id, before, text);
   }
 }
 
-/** The field over the shape `typed` of a desk, into which its text is typed; in the SVG element `world`. */
-export class Field {
-  #desk;
-  #world;
-  #typists = new Map();
-  // the field, where it is there; whether a letter is being put together in it; and when something was typed
-  #area = null;
-  #isComposing = false;
-  #time = 0;
+// Makes a text another one: appends what it has behind the one before, else puts the whole.
+function put(id, before, text) {
+  const [shown, more] = [textOf(id), text.slice(before.length)];
+  const isAppend = text.startsWith(before);
+  const operation = isAppend ? ['append', more, bytesOf(shown)] : ['put', text];
+  board.edit({ [id]: ['patch', { props: ['patch', { [keyOf(id)]: operation }] }] });
+  const piece = { id, text: more, at: shown.length, isSent: board.isOpen };
+  pieces = isAppend ? [...pieces, piece] : pieces.filter((other) => other.id !== id);
+}
 
-  constructor(desk, world) {
-    this.#desk = desk;
-    this.#world = world;
-    desk.settle = () => this.settle();
-    desk.board.on('change', () => {
-      this.#typists.forEach((typist) => desk.attempt(() => typist.look()));
-      this.#show();
-    });
+// Appends again what was passed over of a shape's text, each piece by itself: behind a longer one that is
+// passed over, the room might have the next one after all. What wasn't sent comes last in the text that is
+// shown; what was sent may be further up, as the room may have answered.
+function appendAgain(id) {
+  const shown = textOf(id) ?? '';
+  const own = pieces.filter((piece) => piece.id === id && board.document.has(id));
+  const from = (place) => own.slice(place).map(({ text }) => text).join('');
+  const passed = own.filter(({ text, at, isSent }, place) =>
+    (isSent ? !shown.startsWith(text, at) : shown.slice(at) !== from(place)));
+  if (passed.length > 0) {
+    pieces = pieces.filter((piece) => !passed.includes(piece));
+    board.mark('typing');
+    passed.forEach(({ text }) => put(id, '', text));
   }
+}
 
-  /** Opens the field over a shape that has a text or a name. */
-  open(id) {
-    this.close();
-    const { type, props } = this.#desk.spots.get(id)?.record ?? {};
-    if ((props?.text ?? props?.name) === undefined || type === 'arrow') {
-      return;
-    }
-    const area = Object.assign(document.createElement('textarea'), { rows: 1, spellcheck: false, ariaLabel: 'Text' });
-    area.addEventListener('input', () => this.#isComposing || this.#type());
-    area.addEventListener('compositionstart', () => (this.#isComposing = true));
-    area.addEventListener('compositionend', () => this.#type());
-    area.addEventListener('blur', () => this.close());
-    this.#world.append(svg('foreignObject', { class: `field ${type} size-${props.size}` }, html('div', 'words', area)));
-    this.#typists.set(id, this.#typists.get(id) ?? new Typist(this.#desk.board, id));
-    [this.#area, this.#isComposing, this.#time] = [area, false, 0];
-    this.#desk.typed = id;
-    this.#desk.use('select', [id]);
-    this.#show();
-    area.focus();
+// Shows the field where its shape is, with the text as it is in the document.
+function showField() {
+  const [field, spot] = [area.closest('.field'), desk.spots.get(desk.typed)];
+  field.toggleAttribute('hidden', !spot);
+  set({ typed: spot ? desk.typed : null });
+  if (spot) {
+    const { record: { type: kind, props }, x, y, w, h } = spot;
+    const name = { y: y - 30, width: Math.max(w, 200), height: 26 };
+    const place = kind === 'frame' ? name : { y, width: w, height: h };
+    dress(field, { class: `field ${kind} size-${props.size}`, x, ...place });
+    write(textOf(desk.typed));
   }
+}
 
-  close() {
-    if (this.#desk.typed !== null) {
-      this.#desk.typed = null;
-      this.#area.closest('.field').remove();
-      this.#desk.show();
+// Writes a text into the field, where all in it is taken. The cursor stays where it is, or at the end.
+function write(text) {
+  const { selectionStart, selectionEnd, value } = area;
+  dress(area.parentElement, { class: wordsClass(text) });
+  if (value === taken && value !== text) {
+    area.value = text;
+    taken = area.value;
+    if (selectionEnd < value.length) {
+      area.setSelectionRange(selectionStart, selectionEnd);
     }
-  }
-
-  /** What was typed stays as it is shown. */
-  settle() {
-    this.#typists.forEach((typist) => typist.settle());
-    this.#typists = new Map([...this.#typists].filter(([id]) => id === this.#desk.typed));
-  }
-
-  #type() {
-    const typist = this.#typists.get(this.#desk.typed);
-    const now = performance.now();
-    this.#isComposing = false;
-    if (now - this.#time > PAUSE) {
-      this.#desk.begin('typing');
-    }
-    this.#time = now;
-    if (typist && !this.#desk.attempt(() => typist.type(this.#area.value))) {
-      typist.settle();
-    }
-    this.#show();
-  }
-
-  // Shows the text as it is in the document, where its shape is. The cursor stays where it is, or at the end.
-  #show() {
-    const text = this.#typists.get(this.#desk.typed)?.text;
-    const spot = this.#desk.spots.get(this.#desk.typed);
-    if (text === undefined || !spot) {
-      this.close();
-      return;
-    }
-    const { selectionStart, selectionEnd, value, style } = this.#area;
-    if (value !== text && !this.#isComposing) {
-      this.#area.value = text;
-      const isAtEnd = selectionEnd === value.length;
-      this.#area.setSelectionRange(isAtEnd ? text.length : selectionStart, isAtEnd ? text.length : selectionEnd);
-    }
-    const { x, y, w, h } = spot;
-    const name = { x, y: y - 30, width: Math.max(w, 200), height: 26 };
-    const place = spot.record.type === 'frame' ? name : { x, y, width: w, height: h };
-    Object.entries(place).forEach(([key, at]) => this.#area.closest('.field').setAttribute(key, at));
-    this.#area.parentElement.classList.toggle('long', text.length >= LONG);
-    style.height = 'auto';
-    style.height = `${this.#area.scrollHeight}px`;
   }
 }

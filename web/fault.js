@@ -1,9 +1,9 @@
 // Why a client doesn't do what it is asked, and why it doesn't take a message.
 
 /**
- * Why something isn't done that a client was asked. `name` is the name of the fault that `docs/FORMATS.md` has, `id` the id
- * that it carries and `why` its cause, each `null` where it has none. `message` is all of it, as a recording's fault line has
- * it: `Invalid shape:a Missing`.
+ * Why something isn't done that a client was asked. `name` is the name of the fault that `docs/FORMATS.md`
+ * has, `id` the id that it carries and `why` its cause, each `null` where it has none. `message` is all of
+ * it, as a recording's fault line has it: `Invalid shape:a Missing`.
  */
 export class EditFault extends Error {
   constructor(name, id = null, why = null) {
@@ -28,4 +28,15 @@ export function check(holds, name, id = null, why = null) {
 export function checkEach(ids, name, isRight) {
   const id = ids.find((other, place) => !isRight(other, place));
   check(id === undefined, name, id);
+}
+
+/** The first fault that a function answers of some items; `null` where it answers `null` of each. */
+export function firstFault(items, faultOf) {
+  for (const item of items) {
+    const fault = faultOf(item);
+    if (fault !== null) {
+      return fault;
+    }
+  }
+  return null;
 }

@@ -1,7 +1,7 @@
 // Index keys, by which siblings stand in order: between any two there is another.
 //
-// A key is an integer part, whose head tells how many digits it has, and a fraction. `docs/FORMATS.md` has the rules,
-// 'Index keys'.
+// A key is an integer part, whose head tells how many digits it has, and a fraction. `docs/FORMATS.md` has
+// the rules, 'Index keys'.
 
 import { check } from './fault.js';
 
@@ -26,13 +26,12 @@ const fractionOf = (key) => key.slice(integerLength(key));
 
 /**
  * The key between two ends, each of which may be `null`.
- *
  * @throws {EditFault} `NoKey` with the cause: `NotKey`, `NotLess`, `NoRoom` or `KeyTooLong`
  */
 export function between(below, above) {
   check([below, above].every((end) => end === null || isKey(end)), 'NoKey', null, 'NotKey');
   check(below === null || above === null || below < above, 'NoKey', null, 'NotLess');
-  const key = below === null ? (above === null ? 'a0' : before(above)) : above === null ? after(below) : inside(below, above);
+  const key = below === null ? before(above) : behind(below, above);
   check(key !== null, 'NoKey', null, 'NoRoom');
   check(key.length <= LONGEST, 'NoKey', null, 'KeyTooLong');
   return key;
@@ -47,8 +46,11 @@ export function severalBehind(below, count) {
   return keys;
 }
 
-// The key below one, `null` where there is none.
+// The key below an end, which may be `null`; `null` where there is none.
 function before(above) {
+  if (above === null) {
+    return 'a0';
+  }
   const integer = integerOf(above);
   if (integer === SMALLEST) {
     return integer + midpoint('', fractionOf(above));
@@ -57,24 +59,15 @@ function before(above) {
   return last === SMALLEST ? null : last;
 }
 
-// The key above one.
-function after(below) {
-  return neighbour(integerOf(below), 1) ?? pastFraction(below);
-}
-
-// The key between two that are in order.
-function inside(below, above) {
+// The key behind one, and below an end, which may be `null`.
+function behind(below, above) {
   const integer = integerOf(below);
-  if (integer === integerOf(above)) {
+  if (above !== null && integer === integerOf(above)) {
     return integer + midpoint(fractionOf(below), fractionOf(above));
   }
   const next = neighbour(integer, 1);
-  return next !== null && next < above ? next : pastFraction(below);
-}
-
-// The integer part of a key with a greater fraction.
-function pastFraction(key) {
-  return integerOf(key) + midpoint(fractionOf(key), null);
+  const isInside = next !== null && (above === null || next < above);
+  return isInside ? next : integer + midpoint(fractionOf(below), null);
 }
 
 // The integer part after this one (`by` 1) or before it (-1), `null` where there is none.
@@ -89,9 +82,7 @@ function neighbour(integer, by) {
 }
 
 // The text with its last digit moved so far.
-function shifted(text, by) {
-  return text.slice(0, -1) + DIGITS[DIGITS.indexOf(text.at(-1)) + by];
-}
+const shifted = (text, by) => text.slice(0, -1) + DIGITS[DIGITS.indexOf(text.at(-1)) + by];
 
 // What lies half way between two fractions, of which the first is less; `null` as the second is none.
 function midpoint(below, above) {
@@ -103,7 +94,8 @@ function midpoint(below, above) {
       return key + DIGITS[low + Math.ceil((high - low) / 2)];
     }
     if (high > low && above !== null) {
-      return place + 1 < above.length ? key + DIGITS[high] : key + DIGITS[low] + midpoint(below.slice(place + 1), null);
+      const isLast = place + 1 === above.length;
+      return isLast ? key + DIGITS[low] + midpoint(below.slice(place + 1), null) : key + DIGITS[high];
     }
     key += DIGITS[low];
   }

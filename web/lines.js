@@ -1,9 +1,11 @@
-// The clients of `rooms-client.js`, asked by lines: what `checks/web` plays recordings with. `README.md` has the lines.
+// The clients of `rooms-client.js`, asked by lines: what `checks/web` plays recordings with. `README.md` has
+// the lines.
 
 import { Client, EditFault } from './rooms-client.js';
 import { print } from './values.js';
 
-// Clients by number: the client, the session that it asked for last, and its watches with what each told last.
+// Clients by number: the client, the session that it asked for last, and its watches with what each told
+// last.
 const clients = new Map();
 
 // What is done at a line; answers what is printed, but for messages and views.
@@ -15,7 +17,7 @@ const events = {
     return [sent(asked, asked.client.connect(line.request))];
   },
   take: (line, { client }) => client.take(line.message),
-  ended: (line, { client }) => client.end(line.reason),
+  ended: (line, { client }) => client.cut(line.reason),
   cut: (_, { client }) => client.cut(),
   edit: (line, { client }) => client.edit(line.diff),
   presence: (line, { client }) => client.presence(line.record),
@@ -26,13 +28,14 @@ const events = {
   copy: (line, { client }) => client.copy(line.ids),
   paste: (line, { client }) => void client.paste(line),
   watch: (line, { watches }) => void watches.push({ view: line.view, last: null }),
-  query: (line, { client }) => [{ client: line.client, ids: client.query(line.type, line.where), query: true }],
+  query: ({ client: number, type, where }, { client }) =>
+    [{ client: number, ids: client.query(type, where), query: true }],
   show: (line, { client }) => [
     {
       clock: client.clock,
       doc: Object.fromEntries(client.document),
       others: Object.fromEntries(client.others),
-      owed: client.owed,
+      owed: client.pending,
       show: line.client,
     },
   ],

@@ -1,21 +1,20 @@
 // What a client can take back and do again: marks, undo, redo and bail.
-//
-// The history has the marks and the inverses of the client's own edits, the oldest first. Undo, redo and bail answer
-// `{diff, done}`: the diff is to be done to the document, and `done` to be called with the diff that undoes what acted.
 
 import { check } from './fault.js';
 import { joined } from './operations.js';
 
 /** A client's history, and what was taken back. */
 export class Marks {
-  // `{name}` of a mark, `{inverse}` of an edit.
+  // What does a diff to the document, and answers the diff that undoes it.
+  #act;
+  // `{name}` of a mark, `{inverse}` of an edit, the oldest first.
   #history = [];
   // `{diff, marks}` of each undo, the newest last.
   #undone = [];
 
-  mark(name) {
-    this.#history.push({ name });
-  }
+  constructor(act) { this.#act = act; }
+
+  mark(name) { this.#history.push({ name }); }
 
   /** An edit was done that this diff undoes. What was taken back can't be done again. */
   edit(inverse) {
@@ -23,44 +22,41 @@ export class Marks {
     this.#undone = [];
   }
 
-  /** What takes the edits back to the last mark before them; `null` where there is none to take back. */
+  /** Takes the edits back to the last mark before them; answers whether there was one to take back. */
   undo() {
     const last = this.#history.findLastIndex((entry) => 'inverse' in entry);
     if (last < 0) {
-      return null;
+      return false;
     }
     const from = this.#history.findLastIndex((entry, place) => place < last && 'name' in entry) + 1;
-    const [diff, marks] = [merged(this.#history.slice(from, last + 1)), this.#history.slice(last + 1)];
-    const done = (inverse) => {
-      this.#history.length = from;
-      this.#undone.push({ diff: inverse, marks });
-    };
-    return { diff, done };
+    const marks = this.#history.slice(last + 1);
+    this.#undone.push({ diff: this.#takeBack(from), marks });
+    return true;
   }
 
-  /** What does again what was taken back last; `null` where nothing was. */
+  /** Does again what was taken back last; answers whether anything was. */
   redo() {
-    if (this.#undone.length === 0) {
-      return null;
+    const last = this.#undone.pop();
+    if (last === undefined) {
+      return false;
     }
-    const { diff, marks } = this.#undone.at(-1);
-    const done = (inverse) => {
-      this.#undone.pop();
-      this.#keep(inverse);
-      this.#history.push(...marks);
-    };
-    return { diff, done };
+    this.#keep(this.#act(last.diff));
+    this.#history.push(...last.marks);
+    return true;
   }
 
-  /** What takes back all since the last mark of a name. @throws {EditFault} `NoMark` */
+  /** Takes all back since the last mark of a name. @throws {EditFault} `NoMark` */
   bail(name) {
     const from = this.#history.findLastIndex((entry) => entry.name === name);
     check(from >= 0, 'NoMark');
-    const done = () => {
-      this.#history.length = from;
-      this.#undone = [];
-    };
-    return { diff: merged(this.#history.slice(from)), done };
+    this.#takeBack(from);
+    this.#undone = [];
+  }
+
+  // Does the inverses from a place on, the newest first, and forgets them; answers the inverse of all.
+  #takeBack(from) {
+    const edits = this.#history.splice(from).filter((entry) => 'inverse' in entry);
+    return this.#act(edits.reduceRight((diff, { inverse }) => joined(diff, inverse), {}));
   }
 
   // An inverse that names no id isn't kept.
@@ -69,9 +65,4 @@ export class Marks {
       this.#history.push({ inverse });
     }
   }
-}
-
-// The one diff that does the inverses among some entries, the newest first.
-function merged(entries) {
-  return entries.filter((entry) => 'inverse' in entry).reduceRight((diff, { inverse }) => joined(diff, inverse), {});
 }

@@ -1,27 +1,25 @@
 // Operations on records and on the values in them: what they make of a record, and what undoes them.
 //
-// A diff is a map from ids to `['put', record]`, `['patch', patch]` or `['remove']`; a patch a map from keys to
-// `['put', value]`, `['patch', patch]`, `['append', list or text, offset]` or `['delete']`.
+// A diff is a map from ids to `['put', record]`, `['patch', patch]` or `['remove']`; a patch a map from keys
+// to `['put', value]`, `['patch', patch]`, `['append', list or text, offset]` or `['delete']`. In what is for
+// both, `last` is the kind that takes away: `remove` or `delete`.
 
 import { admissionFault } from './records.js';
-import { at, bytesOf, isMap } from './values.js';
+import { at, bytesOf, changedAt, isMap, setIn } from './values.js';
 
 /** Whether the value is a diff. */
-export function isDiff(value) {
-  return isMap(value) && Object.values(value).every((operation) => isOperation(operation, 'remove'));
-}
+export const isDiff = (value) => areOperations(value, 'remove');
 
-// Whether the value is an operation on a record, or on a value, which alone may append; `last` takes what there is away.
+const areOperations = (value, last) =>
+  isMap(value) && Object.values(value).every((operation) => isOperation(operation, last));
+
 function isOperation(value, last) {
-  if (!Array.isArray(value)) {
-    return false;
-  }
-  const [kind, what, offset] = value;
+  const [kind, what, offset] = Array.isArray(value) ? value : [];
   switch (kind) {
     case 'put':
       return value.length === 2;
     case 'patch':
-      return value.length === 2 && isMap(what) && Object.values(what).every((operation) => isOperation(operation, 'delete'));
+      return value.length === 2 && areOperations(what, 'delete');
     case 'append':
       return last === 'delete' && value.length === 3 && (Array.isArray(what) || typeof what === 'string')
         && Number.isInteger(offset) && offset >= 0 && offset < 2 ** 32;
@@ -36,22 +34,12 @@ export function afterOperation(value, [kind, what, offset]) {
     case 'put':
       return what;
     case 'patch':
-      return patched(value, what);
+      return isMap(value) ? changedAt(value, what, afterOperation) : value;
     case 'append':
-      return !appends(value, what, offset) ? value : Array.isArray(value) ? [...value, ...what] : value + what;
+      return appends(value, what, offset) ? value.concat(what) : value;
     default:
       return undefined;
   }
-}
-
-// The map under a patch. What is no map stays as it is.
-function patched(value, patch) {
-  if (!isMap(value)) {
-    return value;
-  }
-  const fields = new Map(Object.entries(value));
-  Object.entries(patch).forEach(([key, operation]) => setIn(fields, key, afterOperation(fields.get(key), operation)));
-  return Object.fromEntries(fields);
 }
 
 // Whether an append takes effect: on a list of so many values, or on a text of so many bytes.
@@ -61,56 +49,34 @@ function appends(value, what, offset) {
     : typeof value === 'string' && bytesOf(value) === offset;
 }
 
-/** Sets what stands under a key of a `Map`, or takes it away. */
-export function setIn(map, key, value) {
-  if (value === undefined) {
-    map.delete(key);
-  } else {
-    map.set(key, value);
+/** Does to records, a `Map` by id, the operations of a diff that act; answers the diff that undoes these. */
+export function step(records, diff) {
+  const back = new Map();
+  for (const [id, operation] of Object.entries(diff)) {
+    const record = records.get(id);
+    if (acts(id, record, operation)) {
+      back.set(id, inverse(record, operation, 'remove'));
+      setIn(records, id, afterOperation(record, operation));
+    }
   }
+  return Object.fromEntries(back);
 }
 
 // Whether an operation acts on a record: a patch where what it leaves is admitted.
-function acts(id, record, [kind, what]) {
-  return kind === 'put' || (record !== undefined && (kind === 'remove' || admissionFault(id, patched(record, what)) === null));
+function acts(id, record, operation) {
+  const [kind] = operation;
+  const isAdmitted = () => admissionFault(id, afterOperation(record, operation)) === null;
+  return kind === 'put' || (record !== undefined && (kind === 'remove' || isAdmitted()));
 }
 
-/** Does to records, a `Map` by id, the operations of a diff that act, after `touch` was told the id of each. */
-export function step(records, diff, touch) {
-  for (const [id, operation] of Object.entries(diff)) {
-    if (acts(id, records.get(id), operation)) {
-      touch(id);
-      setIn(records, id, afterOperation(records.get(id), operation));
-    }
-  }
-}
-
-/** The diff that undoes what of a diff acts on the records. */
-export function inverse(records, diff) {
-  const acting = Object.entries(diff).filter(([id, operation]) => acts(id, records.get(id), operation));
-  return Object.fromEntries(acting.map(([id, operation]) => [id, operationBack(records.get(id), operation)]));
-}
-
-function operationBack(record, [kind, what]) {
-  if (kind === 'patch') {
-    return ['patch', isMap(record) ? patchBack(record, what) : {}];
-  }
-  return record === undefined ? ['remove'] : ['put', record];
-}
-
-// The patch that brings a map back. A key at which nothing took effect gets nothing.
-function patchBack(map, patch) {
-  const entries = Object.entries(patch).map(([key, operation]) => [key, valueBack(at(map, key), operation)]);
-  return Object.fromEntries(entries.filter(([, operation]) => operation !== undefined));
-}
-
-function valueBack(value, [kind, what, offset]) {
+// The operation that undoes one on a record or on a value; `undefined` where that takes no effect.
+function inverse(value, [kind, what, offset], last) {
   if (value === undefined) {
-    return kind === 'put' ? ['delete'] : undefined;
+    return kind === 'put' ? [last] : undefined;
   }
   switch (kind) {
     case 'patch':
-      return isMap(value) ? ['patch', patchBack(value, what)] : undefined;
+      return isMap(value) ? ['patch', patchInverse(value, what)] : undefined;
     case 'append':
       return appends(value, what, offset) ? ['put', value] : undefined;
     default:
@@ -118,23 +84,21 @@ function valueBack(value, [kind, what, offset]) {
   }
 }
 
-/** The one diff that does an inverse, and then an older one. An inverse has no append. */
-export function joined(newer, older) {
-  const both = new Map(Object.entries(newer));
-  for (const [id, operation] of Object.entries(older)) {
-    both.set(id, both.has(id) ? operationAfter(both.get(id), operation) : operation);
-  }
-  return Object.fromEntries(both);
-}
+// The patch that brings a map back. A key at which nothing took effect gets nothing.
+const patchInverse = (map, patch) =>
+  changedAt({}, patch, (_, operation, key) => inverse(at(map, key), operation, 'delete'));
 
-// The operation that does both in turn, on a record or on a value.
-function operationAfter(first, second) {
-  if (second[0] !== 'patch') {
+/** The one diff that does an inverse, and then an older one. An inverse has no append. */
+export const joined = (newer, older) => changedAt(newer, older, both);
+
+// The operation that does both in turn, on a record or on a value; there may be no first one.
+function both(first, second) {
+  if (first === undefined || second[0] !== 'patch') {
     return second;
   }
   switch (first[0]) {
     case 'put':
-      return ['put', patched(first[1], second[1])];
+      return ['put', afterOperation(first[1], second)];
     case 'patch':
       return ['patch', joined(first[1], second[1])];
     default:

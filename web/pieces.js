@@ -30,7 +30,7 @@ export class Pieces {
   // The number that the next part must have; none between texts.
   #due = null;
 
-  /** Takes a piece; answers the text that it ends, or `null` before the last. @throws {Error} of a piece out of turn */
+  /** Takes a piece; answers the text that it ends, or `null` before. @throws {Error} of one out of turn */
   add(piece) {
     const [head, number] = piece.startsWith('{') ? ['', '0'] : /^(0|[1-9][0-9]{0,5})_/.exec(piece) ?? [];
     if (head === undefined || (this.#due !== null && (head === '' || Number(number) !== this.#due))) {

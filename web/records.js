@@ -1,10 +1,13 @@
-// The records of a whiteboard at version 3: their types, with the fields of each, and which records are admitted.
+// The records of a whiteboard at version 3: their types with the fields of each, and which are admitted.
 
+import { firstFault } from './fault.js';
 import { isKey } from './keys.js';
 import { at, bytesOf, isMap, keysOf, weightOf } from './values.js';
 
 /** The newest migration of each sequence at version 3, as `connect` names them. */
-export const SCHEMA = { schemaVersion: 2, sequences: { 'rooms.base': 1, 'rooms.binding': 1, 'rooms.shape': 2 } };
+export const SCHEMA = {
+  schemaVersion: 2, sequences: { 'rooms.base': 1, 'rooms.binding': 1, 'rooms.shape': 2 },
+};
 
 const MOST_WEIGHT = 32_768;
 const LONGEST_KEY = 256;
@@ -12,62 +15,48 @@ const LONGEST_KEY = 256;
 // A check answers the first fault of a value, or `null`. `type` is what stands under `type` beside the value.
 
 const unless = (holds, fault) => (holds ? null : fault);
-const firstOf = (faults) => faults.find((fault) => fault !== null) ?? null;
-
-function whole(least, most) {
-  return (value) => (Number.isInteger(value) ? unless(least <= value && value <= most, 'OutOfBounds') : 'WrongKind');
-}
-
-function ofText(holds, fault) {
-  return (value) => (typeof value === 'string' ? unless(holds(value), fault) : 'WrongKind');
-}
+const ofKind = (isOfKind, check) => (value) => (isOfKind(value) ? check(value) : 'WrongKind');
+const isText = (value) => typeof value === 'string';
+const ofText = (holds, fault) => ofKind(isText, (value) => unless(holds(value), fault));
+const whole = (least, most) =>
+  ofKind(Number.isInteger, (value) => unless(least <= value && value <= most, 'OutOfBounds'));
 
 const text = (most) => ofText((value) => bytesOf(value) <= most, 'OutOfBounds');
 const oneOf = (...texts) => ofText((value) => texts.includes(value), 'NotListed');
 const idOf = (...types) => ofText((value) => types.includes(typeOf(value)), 'BadId');
+const nullable = (check) => (value) => (value === null ? null : check(value));
+const listOf = (check) => ofKind(Array.isArray, (value) => firstFault(value, (item) => check(item)));
 
-function nullable(check) {
-  return (value) => (value === null ? null : check(value));
-}
-
-function listOf(check) {
-  return (value) => (Array.isArray(value) ? firstOf(value.map((item) => check(item))) : 'WrongKind');
-}
-
-// A map with exactly these keys: a missing one is told first, then one too many, then the first field at fault.
+// A map with exactly these keys: a missing one is told first, then one too many, then a field at fault.
 function object(checks) {
   const wanted = keysOf(checks);
-  return (value) => {
-    if (!isMap(value)) {
-      return 'WrongKind';
-    }
+  return ofKind(isMap, (value) => {
     if (!wanted.every((field) => Object.hasOwn(value, field))) {
       return 'Missing';
     }
     if (Object.keys(value).length > wanted.length) {
       return 'Extra';
     }
-    return firstOf(wanted.map((field) => checks[field](value[field], at(value, 'type'))));
-  };
+    return firstFault(wanted, (field) => checks[field](value[field], at(value, 'type')));
+  });
 }
 
-function byType(checks) {
-  return (value, type) => (typeof type === 'string' && Object.hasOwn(checks, type) ? checks[type](value) : 'NotListed');
-}
+const byType = (checks) =>
+  (value, type) => (isText(type) && Object.hasOwn(checks, type) ? checks[type](value) : 'NotListed');
 
 const number = whole(Number.MIN_SAFE_INTEGER, Number.MAX_SAFE_INTEGER);
 const extent = whole(0, Number.MAX_SAFE_INTEGER);
 const short = text(256);
 const long = text(8_192);
-const truth = (value) => unless(typeof value === 'boolean', 'WrongKind');
-const dict = (value) => unless(isMap(value), 'WrongKind');
+const truth = ofKind((value) => typeof value === 'boolean', () => null);
+const dict = ofKind(isMap, () => null);
 const key = ofText((value) => isKey(value) && value.length <= LONGEST_KEY, 'BadKey');
 const point = object({ x: number, y: number });
 const anchor = object({ x: whole(0, 1000), y: whole(0, 1000) });
 
 const color = oneOf(
-  'black', 'grey', 'light-violet', 'violet', 'blue', 'light-blue', 'yellow', 'orange', 'green', 'light-green', 'light-red',
-  'red', 'white',
+  'black', 'grey', 'light-violet', 'violet', 'blue', 'light-blue', 'yellow', 'orange', 'green', 'light-green',
+  'light-red', 'red', 'white',
 );
 const form = oneOf('rectangle', 'ellipse', 'triangle', 'diamond');
 const dash = oneOf('draw', 'solid', 'dashed', 'dotted');
@@ -86,9 +75,8 @@ const SHAPE_PROPS = {
 };
 
 // A type of records: its scope, and the fields that its records have beside those of every record.
-function type(name, scope, fields) {
-  return [name, { scope, check: object({ id: idOf(name), typeName: oneOf(name), meta: dict, ...fields }) }];
-}
+const type = (name, scope, fields) =>
+  [name, { scope, check: object({ id: idOf(name), typeName: oneOf(name), meta: dict, ...fields }) }];
 
 const TYPES = new Map([
   type('document', 'document', { name: short, gridSize: whole(1, 1000) }),
@@ -114,16 +102,12 @@ const TYPES = new Map([
 ]);
 
 /** The name of the type in an id, which stands before its only `:`; `null` where the text is no id. */
-export function typeOf(id) {
-  return /^([^:]+):[A-Za-z0-9_-]{1,64}$/.exec(id)?.[1] ?? null;
-}
+export const typeOf = (id) => /^([^:]+):[A-Za-z0-9_-]{1,64}$/.exec(id)?.[1] ?? null;
 
-/** `document`, `session` or `presence`: the scope of the records under an id; `null` where it is none of a known type. */
-export function scopeOf(id) {
-  return TYPES.get(typeOf(id))?.scope ?? null;
-}
+/** The scope of the records under an id, `document`, `session` or `presence`; `null` without a known type. */
+export const scopeOf = (id) => TYPES.get(typeOf(id))?.scope ?? null;
 
-/** Why a record isn't admitted under an id: `BadId`, `UnknownType`, a fault of its fields, or `TooHeavy`; `null` where it is. */
+/** Why a record isn't admitted: `BadId`, `UnknownType`, a fault of a field, or `TooHeavy`; else `null`. */
 export function admissionFault(id, record) {
   const name = typeOf(id);
   if (name === null || at(record, 'id') !== id || at(record, 'typeName') !== name) {

@@ -1,34 +1,61 @@
-// A client of a room, by messages alone: it edits a document by itself, and keeps in step with the room where it is
-// connected to one. Nothing here knows of sockets; `socket.js` puts a client on one.
+// A client of a room, by messages alone: it edits a document by itself, and keeps in step with the room where
+// it is connected to one. `socket.js` puts it on a socket.
 //
-// A client keeps the room's document as it was at the clock that it has reached, its base, and the diffs that it did and
-// that aren't answered, its pending works. What it shows is the base with these done to it, one after the other. To take
-// what the room says, the pending diffs are taken back, the base is changed, and what is still pending is done again.
+// Its base is the room's document at the clock that it has reached, its works are the diffs that it did and
+// that aren't answered. What it shows is the base with these done to it, one after the other. To take what
+// the room says, the works are taken back, the base is changed, and what is still pending is done again.
 
 import { Clip } from './clips.js';
 import { completed } from './completion.js';
 import { check, EditFault, TakeFault } from './fault.js';
 import { Marks } from './marks.js';
-import { afterOperation, inverse, isDiff, setIn, step } from './operations.js';
+import { afterOperation, isDiff, step } from './operations.js';
 import { admissionFault, SCHEMA, scopeOf, typeOf } from './records.js';
-import { at, byBytes, isSame } from './values.js';
+import { at, byBytes, isSame, setIn } from './values.js';
 import { queried, told } from './views.js';
 
 export { EditFault, TakeFault };
 
 const PROTOCOL = 2;
-const MOST_PUSHES = Number.MAX_SAFE_INTEGER;
+
+// Records by id, and what stood under those that were written since `changes` was called last.
+class Shown extends Map {
+  #before = new Map();
+
+  set(id, record) {
+    this.#touch(id);
+    return super.set(id, record);
+  }
+
+  delete(id) {
+    this.#touch(id);
+    return super.delete(id);
+  }
+
+  // The ids under which something else stands than at the last call, rising by bytes.
+  changes() {
+    const changed = [...this.#before].filter(([id, record]) => !isSame(record, this.get(id)));
+    this.#before = new Map();
+    return changed.map(([id]) => id).sort(byBytes);
+  }
+
+  #touch(id) {
+    if (!this.#before.has(id)) {
+      this.#before.set(id, this.get(id));
+    }
+  }
+}
 
 /**
- * A client of a room, whose schema is that of version 3. Records, diffs, views, queries and messages have the forms of
- * `docs/FORMATS.md`. What a client is given and what it shows is its own from then on: nobody changes it. A call that
- * throws has done nothing.
+ * A client of a room, whose schema is that of version 3. Records, diffs, views, queries and messages have the
+ * forms of `docs/FORMATS.md`. What a client is given and what it shows is its own from then on: nobody
+ * changes it. A call that throws has done nothing.
  */
 export class Client {
-  /** The records that are shown, a `Map` by id: the base with what is pending done to it. */
-  document = new Map();
+  /** The records that are shown, a `Map` by id: what the room accepted, and over it what is pending. */
+  document = new Shown();
   /** The presence of others, a `Map` by id; empty where the client isn't connected. */
-  others = new Map();
+  others = new Shown();
   /** The room's clock that was reached, -1 where the room never answered. */
   clock = -1;
   /** The reason for which the room won't have the client, or `null`. */
@@ -36,33 +63,40 @@ export class Client {
   // The room's document at the clock.
   #base = new Map();
   // `{diff}` of an edit, `{presence}` of a record by which others see the client.
-  #pending = [];
-  // How many pushes were ever made, and how many of the pending works the last of them sent on this connection.
+  #works = [];
+  // How many pushes were ever made, and how many pending works the last of them sent on this connection.
   #pushes = 0;
   #sent = 0;
-  // `off`, `asking` or `open`; and the request that was made last.
+  // `off`, `asking` or `open`; the request that was made last; the own presence.
   #connection = 'off';
   #request = '';
   #own = null;
-  #marks = new Marks();
+  // A diff that names no id takes nothing back, and isn't pending.
+  #marks = new Marks((diff) => (Object.keys(diff).length === 0 ? {} : this.#do(diff)));
   #clip = null;
-  // What stood under the ids that were touched since the last call of `changes`, of records and of presences.
-  #shown = new Map();
-  #seen = new Map();
 
-  /** How many edits and presences the room hasn't answered. */
-  get owed() { return this.#pending.length; }
+  /** How many edits and presences the room hasn't answered yet. */
+  get pending() { return this.#works.length; }
 
   /** Whether the room has answered the last `connect`, and the connection stands. */
   get isOpen() { return this.#connection === 'open'; }
 
-  /** Does an edit, completed. It is pending, and can be taken back. @throws {EditFault} `Field`, or as `completed` */
-  edit(wanted) {
-    check(isDiff(wanted), 'Field');
-    this.#marks.edit(this.#do(completed(this.document, wanted)));
+  /**
+   * Does an edit, completed: new shapes get their index, and what hangs on a removed record goes with it. It
+   * is pending, and can be taken back by `undo`.
+   * @param {object} diff operations by id: `['put', record]`, `['patch', patch]` or `['remove']`
+   * @throws {EditFault} where it can't be done, with the name, id and cause of `docs/FORMATS.md`
+   */
+  edit(diff) {
+    check(isDiff(diff), 'Field');
+    this.#marks.edit(this.#do(completed(this.document, diff)));
   }
 
-  /** Sets the record by which others see the client. @throws {EditFault} `WrongScope`, or `Invalid` with the cause */
+  /**
+   * Sets the record by which others see this client, a whole `instance_presence`, to which the room gives the
+   * session's id.
+   * @throws {EditFault} `WrongScope`, or `Invalid` with the cause
+   */
   presence(record) {
     const id = typeof at(record, 'id') === 'string' ? record.id : '-';
     check(scopeOf(id) === 'presence', 'WrongScope', id);
@@ -72,41 +106,47 @@ export class Client {
     this.#showOwn();
   }
 
-  /** Makes a mark, to which the client may go back. */
+  /** Makes a mark of a name, any text: `undo` goes back to it, and `bail` by its name. */
   mark(name) { this.#marks.mark(name); }
 
-  /** Takes the client's edits back to its last mark, or to the first of them; answers whether there was one. */
-  undo() { return this.#doIfAny(this.#marks.undo()); }
+  /** Takes the own edits back to the last mark, or to the first of them; answers whether there was one. */
+  undo() { return this.#marks.undo(); }
 
-  /** Does again what was taken back last; answers whether there was anything. */
-  redo() { return this.#doIfAny(this.#marks.redo()); }
+  /** Does again what `undo` took back last; answers whether there was something. */
+  redo() { return this.#marks.redo(); }
 
-  /** Takes the edits back to the last mark of a name, and forgets them and the mark. @throws {EditFault} `NoMark` */
-  bail(name) { this.#doIfAny(this.#marks.bail(name)); }
+  /** Takes the own edits back to the last mark of a name, and forgets both. @throws {EditFault} `NoMark` */
+  bail(name) { this.#marks.bail(name); }
 
-  /** Copies shapes with what hangs under them, in place of what was copied before. @throws {EditFault} as `Clip` */
+  /**
+   * Copies shapes with what hangs under them and the bindings between, in place of what was copied before.
+   * @throws {EditFault} `NoShape`, `Doubled`, `TooMany`
+   */
   copy(ids) { this.#clip = new Clip(this.document, ids); }
 
-  /** Pastes what was copied last, as an edit; answers the new ids. @throws {EditFault} `Field`, `NoClip`, or as `Clip` */
+  /**
+   * Pastes what was copied last under a page or shape, moved by `dx` and `dy`, as an edit; answers the new
+   * ids. Their prefix, 1 to 60 characters of `A-Z a-z 0-9 _ -`, must be another at each paste.
+   * @throws {EditFault} `Field`, `NoClip`, `Taken`, `NoKey`, or as `edit`
+   */
   paste({ dx, dy, parent, prefix }) {
     check([dx, dy].every(Number.isSafeInteger) && ['page', 'shape'].includes(typeOf(parent)), 'Field');
     check(typeof prefix === 'string' && /^[A-Za-z0-9_-]{1,60}$/.test(prefix), 'Field');
     check(this.#clip !== null, 'NoClip');
-    const wanted = this.#clip.pasted(this.document, { dx, dy, parent, prefix });
-    this.edit(wanted);
-    return Object.keys(wanted);
+    const diff = this.#clip.pasted(this.document, { dx, dy, parent, prefix });
+    this.edit(diff);
+    return Object.keys(diff);
   }
 
-  /** What a view of the document tells. */
+  /** What a view tells: `{box: id}` (past 2^53 as `BigInt`), `{tree: id}`, `{bound: id}`, `{count: id}`. */
   view(view) { return told(this.document, view); }
 
-  /** The ids of the records of a type that meet a query, rising by bytes. */
+  /** The ids of the records of a type that meet a query, as `['eq', 'type', 'geo']`, rising by bytes. */
   query(type, query) { return queried(this.document, type, query); }
 
   /**
    * The message that asks the room for a session, by a request whose number the answer will name.
-   *
-   * @throws {EditFault} `AlreadyOpen` where it has asked or is connected, `Refused` where the room won't have the client
+   * @throws {EditFault} `AlreadyOpen`; `Refused` where the room won't have the client
    */
   connect(request) {
     check(this.#connection === 'off', 'AlreadyOpen');
@@ -120,8 +160,8 @@ export class Client {
   /** The pushes of what is pending and wasn't sent on this connection, in order. They are to be sent. */
   pushes() {
     const messages = [];
-    while (this.isOpen && this.#sent < this.#pending.length && this.#pushes < MOST_PUSHES) {
-      const { diff, presence } = this.#pending[this.#sent];
+    while (this.isOpen && this.#sent < this.#works.length) {
+      const { diff, presence } = this.#works[this.#sent];
       this.#pushes += 1;
       this.#sent += 1;
       const what = diff === undefined ? { presence: ['put', presence] } : { diff };
@@ -132,65 +172,44 @@ export class Client {
 
   /** Takes a message of the room. @throws {TakeFault} where it isn't one that can come now */
   take(message) {
-    if (message.type === 'connect') {
-      this.#checkAnswer(message);
+    const { type, data } = message;
+    if (type === 'connect') {
       this.#takeAnswer(message);
       return;
     }
     checkTaken(this.isOpen, 'a message came before the answer');
-    if (message.type === 'data') {
-      this.#checkEvents(message.data);
-      this.#underPending(() => message.data.forEach((event) => this.#takeEvent(event)));
-    } else {
-      checkTaken(message.type === 'pong', `there is no message ${message.type}`);
+    checkTaken(type === 'data' || type === 'pong', `there is no message ${type}`);
+    if (type === 'data') {
+      this.#checkEvents(data);
+      this.#underPending(() => data.forEach((event) => this.#takeEvent(event)));
     }
   }
 
-  /** The connection is lost: edits stay pending, to be pushed again; presences don't. */
-  cut() {
-    this.#pending = this.#pending.filter(({ diff }) => diff !== undefined);
+  /**
+   * The connection is lost, or the room ended the session for a reason. Edits stay pending, to be pushed
+   * again; presences don't. After any reason but `SLOW` the room won't have the client again.
+   */
+  cut(reason = null) {
+    this.#works = this.#works.filter(({ diff }) => diff !== undefined);
     this.#sent = 0;
     this.#connection = 'off';
     this.#forgetOthers();
-  }
-
-  /** The room ended the session for a reason; after any but `SLOW` it won't have the client again. */
-  end(reason) {
-    this.cut();
-    this.refused = reason === 'SLOW' ? this.refused : reason;
+    this.refused = [null, 'SLOW'].includes(reason) ? this.refused : reason;
   }
 
   /** What is shown otherwise than at the last call: `{ids, others}`, the ids of records and of presences. */
-  changes() {
-    const [ids, others] = [changedIds(this.#shown, this.document), changedIds(this.#seen, this.others)];
-    this.#shown = new Map();
-    this.#seen = new Map();
-    return { ids, others };
-  }
+  changes() { return { ids: this.document.changes(), others: this.others.changes() }; }
 
   // Does a diff, which is pending then; answers the diff that undoes what acted.
   #do(diff) {
-    const back = inverse(this.document, diff);
-    this.#replay({ diff });
-    this.#pending.push({ diff });
-    return back;
-  }
-
-  // Does what takes back or does again, if there is any. A diff that names no id isn't pending.
-  #doIfAny(taken) {
-    taken?.done(Object.keys(taken.diff).length === 0 ? {} : this.#do(taken.diff));
-    return taken !== null;
+    this.#works.push({ diff });
+    return step(this.document, diff);
   }
 
   #showOwn() {
     if (this.isOpen && this.#own !== null) {
-      this.#pending.push({ presence: this.#own });
+      this.#works.push({ presence: this.#own });
     }
-  }
-
-  #checkAnswer({ connectRequestId }) {
-    checkTaken(this.#connection === 'asking', 'an answer came, and the client does not ask');
-    checkTaken(connectRequestId === this.#request, 'the answer is to another request');
   }
 
   // Each result must be that of the first push that is due, and no clock may lie below the one before.
@@ -198,7 +217,8 @@ export class Client {
     let [due, clock] = [this.#pushes - this.#sent + 1, this.clock];
     for (const { type, clientClock, serverClock } of events) {
       if (type === 'push_result') {
-        checkTaken(due <= this.#pushes && clientClock === due, `a result of push ${clientClock} came, and ${due} is due`);
+        const isDue = due <= this.#pushes && clientClock === due;
+        checkTaken(isDue, `a result of push ${clientClock} came, and ${due} is due`);
         due += 1;
       }
       checkTaken(serverClock >= clock, `the clock goes back from ${clock} to ${serverClock}`);
@@ -206,7 +226,9 @@ export class Client {
     }
   }
 
-  #takeAnswer({ diff, hydrationType, serverClock }) {
+  #takeAnswer({ connectRequestId, diff, hydrationType, serverClock }) {
+    checkTaken(this.#connection === 'asking', 'an answer came, and the client does not ask');
+    checkTaken(connectRequestId === this.#request, 'the answer is to another request');
     this.#forgetOthers();
     this.#underPending(() => {
       if (hydrationType === 'wipe_all') {
@@ -225,7 +247,7 @@ export class Client {
       this.#write(diff);
       return;
     }
-    const pushed = this.#pending.shift();
+    const pushed = this.#works.shift();
     this.#sent -= 1;
     const accepted = { commit: pushed.diff, discard: {} };
     this.#write((typeof action === 'string' ? accepted[action] : action.rebaseWithDiff) ?? {});
@@ -233,53 +255,27 @@ export class Client {
 
   // Changes the base while what is pending is taken back, and does again what is pending then.
   #underPending(change) {
-    this.#pending.forEach(({ diff = {} }) => Object.keys(diff).forEach((id) => this.#showBase(id)));
+    this.#works.forEach(({ diff = {} }) => Object.keys(diff).forEach((id) => this.#showBase(id)));
     change();
-    this.#pending.forEach((work) => this.#replay(work));
-  }
-
-  #replay({ diff = {} }) {
-    step(this.document, diff, (id) => touch(this.#shown, this.document, id));
+    this.#works.forEach(({ diff = {} }) => step(this.document, diff));
   }
 
   // Does a diff of the room's to the base, and to the presence of others.
   #write(diff) {
     for (const [id, operation] of Object.entries(diff)) {
-      if (scopeOf(id) === 'presence') {
-        touch(this.#seen, this.others, id);
-        setIn(this.others, id, afterOperation(this.others.get(id), operation));
-      } else {
-        setIn(this.#base, id, afterOperation(this.#base.get(id), operation));
-        this.#showBase(id);
-      }
+      const records = scopeOf(id) === 'presence' ? this.others : this.#base;
+      setIn(records, id, afterOperation(records.get(id), operation));
+      this.#showBase(id);
     }
   }
 
-  #showBase(id) {
-    touch(this.#shown, this.document, id);
-    setIn(this.document, id, this.#base.get(id));
-  }
+  #showBase(id) { setIn(this.document, id, this.#base.get(id)); }
 
-  #forgetOthers() {
-    this.others.forEach((_, id) => touch(this.#seen, this.others, id));
-    this.others.clear();
-  }
+  #forgetOthers() { [...this.others.keys()].forEach((id) => this.others.delete(id)); }
 }
 
 function checkTaken(holds, what) {
   if (!holds) {
     throw new TakeFault(what);
   }
-}
-
-// Keeps what stands under an id, where nothing was kept of it yet.
-function touch(before, now, id) {
-  if (!before.has(id)) {
-    before.set(id, now.get(id));
-  }
-}
-
-// The ids under which something else stands than before, rising by bytes.
-function changedIds(before, now) {
-  return [...before].filter(([id, record]) => !isSame(record, now.get(id))).map(([id]) => id).sort(byBytes);
 }

@@ -1,60 +1,59 @@
-// Values as messages have them: `null`, truth values, whole numbers, texts, lists and maps. A map is a plain object, of
-// which the own keys count. What is made here may share parts with what it was made of, and is never changed afterwards.
+// Values as messages have them: `null`, truth values, whole numbers, texts, lists and maps. A map is a plain
+// object, of which the own keys count. What is made here may share parts with what it was made of, and is
+// never changed afterwards.
 
-export function isMap(value) {
-  return typeof value === 'object' && value !== null && !Array.isArray(value);
-}
+import { firstFault } from './fault.js';
+
+export const isMap = (value) => typeof value === 'object' && value !== null && !Array.isArray(value);
 
 /** The value under a key of a map; `undefined` where there is none, or where the value is no map. */
-export function at(value, key) {
-  return isMap(value) && Object.hasOwn(value, key) ? value[key] : undefined;
-}
+export const at = (value, key) => (isMap(value) && Object.hasOwn(value, key) ? value[key] : undefined);
 
 /** The text under a key, and the empty text where there is none. */
-export function textAt(value, key) {
-  const found = at(value, key);
-  return typeof found === 'string' ? found : '';
-}
+export const textAt = (value, key) => (typeof at(value, key) === 'string' ? value[key] : '');
 
 /** The whole number in range under a key, and 0 where there is none. */
-export function numberAt(value, key) {
-  const found = at(value, key);
-  return Number.isSafeInteger(found) ? found : 0;
-}
+export const numberAt = (value, key) => (Number.isSafeInteger(at(value, key)) ? value[key] : 0);
 
 /** The map with other values under some keys; what is no map stays as it is. */
-export function withFields(value, fields) {
-  return isMap(value) ? Object.fromEntries([...Object.entries(value), ...Object.entries(fields)]) : value;
+export const withFields = (value, fields) => (isMap(value) ? { ...value, ...fields } : value);
+
+/** Sets what stands under a key of a `Map`, or takes it away where that is `undefined`. */
+export function setIn(map, key, value) {
+  if (value === undefined) {
+    map.delete(key);
+  } else {
+    map.set(key, value);
+  }
+}
+
+/** The map where under each key of another one stands what a function makes of both values, if anything. */
+export function changedAt(map, changes, changed) {
+  const fields = new Map(Object.entries(map));
+  for (const [key, change] of Object.entries(changes)) {
+    setIn(fields, key, changed(fields.get(key), change, key));
+  }
+  return Object.fromEntries(fields);
 }
 
 /** How many bytes the text has in UTF-8. */
-export function bytesOf(text) {
-  return /^[\0-\x7f]*$/.test(text) ? text.length : new TextEncoder().encode(text).length;
-}
+export const bytesOf = (text) =>
+  (/^[\0-\x7f]*$/.test(text) ? text.length : new TextEncoder().encode(text).length);
 
-/** Whether a text comes before another (below 0), after it (above 0) or is it (0), by their bytes in UTF-8. */
+/** The order of texts by their bytes in UTF-8: below 0 where the first comes before, above 0 where behind. */
 export function byBytes(one, other) {
-  const shared = Math.min(one.length, other.length);
-  for (let place = 0; place < shared; place += 1) {
-    const [first, second] = [one.charCodeAt(place), other.charCodeAt(place)];
-    if (first !== second) {
-      return rank(first) - rank(second);
-    }
+  let place = 0;
+  while (place < one.length && one.charCodeAt(place) === other.charCodeAt(place)) {
+    place += 1;
   }
-  return one.length - other.length;
-}
-
-// The halves of characters past U+FFFF stand below U+E000 as units of a text, and behind U+FFFF by the character's bytes.
-function rank(unit) {
-  return unit >= 0xd800 && unit < 0xe000 ? unit + 0x10000 : unit;
+  // Characters have the order of their bytes; an end comes before any.
+  return (one.codePointAt(place) ?? -1) - (other.codePointAt(place) ?? -1);
 }
 
 /** The keys of a map, rising by bytes. */
-export function keysOf(map) {
-  return Object.keys(map).sort(byBytes);
-}
+export const keysOf = (map) => Object.keys(map).sort(byBytes);
 
-/** The value in compact form, the keys of each map rising by bytes. A `BigInt` is printed as the number that it is. */
+/** The value in compact form, the keys of each map rising by bytes. A `BigInt` is printed as a number. */
 export function print(value) {
   if (Array.isArray(value)) {
     return `[${value.map(print).join(',')}]`;
@@ -76,10 +75,8 @@ export function groupedBy(items, keyOf) {
 }
 
 export function isSame(one, other) {
-  if (Array.isArray(one) && Array.isArray(other)) {
-    return one.length === other.length && one.every((item, place) => isSame(item, other[place]));
-  }
-  if (!isMap(one) || !isMap(other)) {
+  const isWhole = (value) => typeof value !== 'object' || value === null;
+  if (isWhole(one) || isWhole(other) || Array.isArray(one) !== Array.isArray(other)) {
     return one === other;
   }
   const keys = Object.keys(one);
@@ -95,34 +92,35 @@ export function weightOf(value) {
   if (Array.isArray(value)) {
     return value.reduce((sum, item) => sum + weightOf(item), 1);
   }
-  return isMap(value) ? Object.keys(value).reduce((sum, key) => sum + bytesOf(key) + weightOf(value[key]), 1) : 1;
+  const keys = isMap(value) ? Object.keys(value) : [];
+  return keys.reduce((sum, key) => sum + bytesOf(key) + weightOf(value[key]), 1);
 }
 
 /**
- * Why no message may have what a page made, or `null`. It is the first that is met of `Field` (none of the kinds above),
- * `BadJson` (half a character in a text), `NotWhole`, `OutOfRange` (past 2^53 - 1), `TooDeep` (nests deeper than this).
+ * Why no message may have a value, or `null`: `Field` (it has none of the kinds above), `BadJson` (half a
+ * character in a text), `NotWhole`, `OutOfRange` (past 2^53 - 1), `TooDeep` (nests deeper than this).
  */
-export function checkValue(value, deepest) {
+export function messageFault(value, deepest) {
   switch (typeof value) {
     case 'boolean':
       return null;
     case 'string':
       return /\p{Surrogate}/u.test(value) ? 'BadJson' : null;
     case 'number':
-      return !Number.isInteger(value) ? 'NotWhole' : Number.isSafeInteger(value) ? null : 'OutOfRange';
+      return numberFault(value);
     case 'object':
-      return value === null ? null : deepest === 0 ? 'TooDeep' : checkParts(value, deepest - 1);
+      return value === null ? null : partsFault(value, deepest);
     default:
       return 'Field';
   }
 }
 
-function checkParts(value, deepest) {
-  for (const part of Array.isArray(value) ? value : Object.entries(value).flat()) {
-    const fault = checkValue(part, deepest);
-    if (fault !== null) {
-      return fault;
-    }
-  }
-  return null;
+function numberFault(number) {
+  const fault = Number.isInteger(number) ? 'OutOfRange' : 'NotWhole';
+  return Number.isSafeInteger(number) ? null : fault;
+}
+
+function partsFault(value, deepest) {
+  const parts = Array.isArray(value) ? value : Object.entries(value).flat();
+  return deepest === 0 ? 'TooDeep' : firstFault(parts, (part) => messageFault(part, deepest - 1));
 }
