@@ -25,7 +25,7 @@ use wire_text::laws::pieces_come_back;
 /// client of a script. If a session serves it over the link, and the room takes its schema, its base is what
 /// the room has at the clock that the client has reached, seen along the client's plan with the presence of
 /// others alone (`base`). What a whole script says is what is said for its lines up to the one at which it
-/// ends (`ends`); a script that was read to its `end` line has a client there, and leaves what is still to
+/// ends, or some of these (`ends`); a script that was read to its `end` line has a client there, and leaves what is still to
 /// come there (`done`). Where a session serves a client that said what a whole script says, the script
 /// doesn't end as a text of the room is refused (`not_server`).
 pub fn goes_its_way_by_a_script()
