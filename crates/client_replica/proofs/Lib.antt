@@ -2,5 +2,6 @@ pub mod StashLemmas
 pub mod PartLemmas
 pub mod WorkLemmas
 pub mod OwnLemmas
+pub mod NewBaseLemmas
 pub mod ReplicaLemmas
 pub mod TakenLemmas

@@ -1,7 +1,7 @@
 -- What a replica stands for after its calls.
-use Rattle.std.proofs.Common.{◌≡◌, ◌≤◌, ◌+◌, ℕ, List, [], ◌∷◌, ◌++◌, length, map, drop, Bool, true, false, ◌||◌, Option, Some, None, slice_get, refl, sym, ap, subst, ◌∙◌, arith}
+use Rattle.std.proofs.Common.{◌≡◌, ◌≤◌, ◌+◌, ℕ, List, [], ◌∷◌, ◌++◌, length, map, Bool, true, false, ◌||◌, Option, Some, None, refl, sym, ap, subst, ◌∙◌, arith}
 use Rattle.std.specs.Prelude.{is_some, unwrap_or, filter, option_to_list}
-use Rattle.std.proofs.lemmas.List.{append-nil, drop-drop}
+use Rattle.std.proofs.lemmas.List.{append-nil}
 use Rattle.rooms_val.specs.Data.{Data, Pairs}
 use Rattle.rooms_val.specs.Maps.{AreRising, value_at}
 use Rattle.field_ops.specs.RecordOps.{RecordOps}
@@ -14,20 +14,17 @@ use Rattle.doc_model.specs.Inverses.{record_after}
 use Rattle.doc_store.specs.Slots.{Slots}
 use Rattle.room_model.specs.Schemas.{records_with}
 use Rattle.room_model.specs.Replicas.{Work, edit, presence, Pending, diff_in, unsent, all_unsent}
-use Rattle.room_model.specs.Taking.{Replica, first_diff, result_diff, after_event, after_hydration}
+use Rattle.room_model.specs.Taking.{Replica, after_hydration}
 use Rattle.room_model.proofs.LookUpLemmas.{rising-filter}
-use Rattle.sync_msgs.specs.declared.data_event.DataEvent.{DataEvent}
-use Rattle.sync_msgs.specs.declared.data_event.DataEvent.TheVariants.{Patch, PushResult}
-use Rattle.sync_msgs.specs.declared.server_message.Hydration.{Hydration}
-use Rattle.sync_msgs.specs.declared.server_message.Hydration.TheVariants.{WipeAll, WipePresence}
-use Rattle.client_replica.specs.Parts.{ops_with, IsTaken, left_by}
+use Rattle.sync_msgs.specs.declared.server_message.Hydration.TheVariants.{WipeAll}
+use Rattle.client_replica.specs.Parts.{ops_with, IsTaken}
 use Rattle.room_schemas.specs.Decided.{is_presence}
-use Rattle.client_replica.specs.Works.{works_in, diffs_in, pushed_diff, event_diff, ended_by}
+use Rattle.client_replica.specs.Works.{works_in, diffs_in}
 use Rattle.client_replica.specs.Stashes.{under, written_over, IsStash}
 use Rattle.client_replica.specs.Standing.{IsReplica, with_work, alone}
 use Rattle.client_replica.proofs.StashLemmas.{written_is, some_is, unwrap_there}
 use Rattle.client_replica.proofs.PartLemmas.{part-step, rising-replay, part-part, presence-document}
-use Rattle.client_replica.proofs.WorkLemmas.{first_left, works-append, diffs-append, works-unsent, diffs-edits, edits_left, named-more, ops-more}
+use Rattle.client_replica.proofs.WorkLemmas.{works-append, diffs-append, works-unsent, diffs-edits, edits_left, named-more, ops-more}
 
 or_right : (a b : Bool) → a || b ≡ false → b ≡ false
 or_right true b is = absurd cc
@@ -44,7 +41,7 @@ module _ (s : SchemaTree) where
   abbrev admits : List ℕ → Data → Bool
   admits = is_admitted s
 
-  rising-shown : (records : Pairs) (works : List Work) (stash : Slots) (others : Pairs) (replica : Replica) → IsReplica s records works stash others replica → AreRising records
+  pub rising-shown : (records : Pairs) (works : List Work) (stash : Slots) (others : Pairs) (replica : Replica) → IsReplica s records works stash others replica → AreRising records
   rising-shown records works stash others replica stands =
       subst AreRising (sym stands.shown) (rising-replay admits (document replica.base) (diffs_in works) (rising-filter (is_document s) replica.base stands.rising))
 
@@ -81,29 +78,12 @@ module _ (s : SchemaTree) where
     rising = rising-step admits diff base rising;
   }
 
-  -- an event is done to a base in two parts
-  pub taken_event : (replica : Replica) (pending : List Pending) (k : ℕ) (event : DataEvent) (records others records' others' : Pairs) → IsTaken s replica (drop k pending) records others
-      → records' ≡ step admits records (ops_with (is_document s) (event_diff (slice_get (works_in pending) k) event))
-      → others' ≡ step admits others (ops_with (is_presence s) (event_diff (slice_get (works_in pending) k) event))
-      → IsTaken s (after_event admits replica event) (drop (k + ended_by event) pending) records' others'
-  taken_event replica pending k (Patch diff clock) records others records' others' taken document_is others_is =
-      taken_diff replica.base diff replica.pending (drop (k + 0) pending) records others records' others' taken.rising taken.document taken.presence document_is others_is (taken.left ∙ ap (λ n. drop n pending) (omega arith))
-  taken_event replica pending k (PushResult client clock action) records others records' others' taken document_is others_is =
-      let diff = result_diff (first_diff replica.pending) action in
-      let same : result_diff (pushed_diff (slice_get (works_in pending) k)) action ≡ diff = ap (λ d. result_diff d action) (sym (ap first_diff taken.left ∙ first_left pending k)) in
-      taken_diff replica.base diff (drop 1 replica.pending) (drop (k + 1) pending) records others records' others' taken.rising taken.document taken.presence
-      (document_is ∙ ap (λ d. step admits records (ops_with (is_document s) d)) same) (others_is ∙ ap (λ d. step admits others (ops_with (is_presence s) d)) same)
-      (ap (drop 1) taken.left ∙ drop-drop 1 k pending)
-
-  -- the base after a snapshot, in two parts
-  pub taken_snapshot : (hydration : Hydration) (diff : RecordOps) (replica : Replica) (records others : Pairs) → AreRising replica.base
-      → records ≡ step admits (left_by hydration (document replica.base)) (ops_with (is_document s) diff) → others ≡ step admits [] (ops_with (is_presence s) diff)
-      → IsTaken s (record replica { base = after_hydration admits (is_document s) replica.base hydration diff }) replica.pending records others
-  taken_snapshot WipeAll diff replica records others rising document_is others_is =
+  -- the base after a snapshot by which nothing stays, in two parts
+  pub taken_snapshot : (diff : RecordOps) (replica : Replica) (records others : Pairs) → AreRising replica.base
+      → records ≡ step admits [] (ops_with (is_document s) diff) → others ≡ step admits [] (ops_with (is_presence s) diff)
+      → IsTaken s (record replica { base = after_hydration admits (is_document s) replica.base WipeAll diff }) replica.pending records others
+  taken_snapshot diff replica records others rising document_is others_is =
       taken_diff [] diff replica.pending replica.pending [] [] records others tt refl refl document_is others_is refl
-  taken_snapshot WipePresence diff replica records others rising document_is others_is =
-      taken_diff (document replica.base) diff replica.pending replica.pending (document replica.base) [] records others (rising-filter (is_document s) replica.base rising)
-      (part-part (is_document s) replica.base) (presence-document s replica.base) document_is others_is refl
 
   still : (held : Slots) (m : Pairs) (diff : RecordOps) (id : List ℕ) (a b : Bool) → AreRising diff → is_some (value_at held id) ≡ a || is_some (value_at diff id)
       → is_some (value_at held id) ≡ b → under held (step admits m diff) id ≡ under held m id

@@ -1,5 +1,5 @@
 -- Pending works one by one: their diffs, and what events take of them.
-use Rattle.std.proofs.Common.{◌≡◌, ◌≤◌, ◌+◌, ℕ, zero, suc, add-one, List, [], ◌∷◌, ◌++◌, length, map, take, drop, Bool, true, false, cond, ◌||◌, Some, option_map, slice_get, zero-add, le_refl, refl, sym, ap, subst, ◌∙◌, arith}
+use Rattle.std.proofs.Common.{◌≡◌, ◌≤◌, ◌+◌, ℕ, zero, suc, add-one, List, [], ◌∷◌, ◌++◌, length, map, take, drop, Bool, true, false, cond, ◌||◌, Some, option_map, slice_get, zero-add, add-zero, le_refl, refl, sym, ap, subst, ◌∙◌, arith}
 use Rattle.std.specs.Prelude.{is_some, filter}
 use Rattle.std.proofs.lemmas.List.Sums.{sum_by-cons, sum_by-append}
 use Rattle.std.proofs.lemmas.List.Folds.{list_any-append}
@@ -14,8 +14,9 @@ use Rattle.sync_msgs.specs.declared.data_event.DataEvent.{DataEvent}
 use Rattle.sync_msgs.specs.declared.data_event.DataEvent.TheVariants.{Patch, PushResult}
 use Rattle.std.proofs.lemmas.List.{drop-map}
 use Rattle.client_replica.specs.declared.work.Work as code
-use Rattle.client_replica.specs.Works.{work_of, works_in, diffs_in, operations, pushed_diff, event_diff, brought_diff, brought, ended_by}
+use Rattle.client_replica.specs.Works.{work_of, works_in, diffs_in, operations, pushed_diff, event_diff, brought_diff, brought, ended_by, ended, ended_diff}
 use Rattle.client_replica.specs.Stashes.{is_named}
+use Rattle.client_replica.specs.NewBases.{HasIdsOf}
 
 -- the first of the works from a place on
 pub first_left : (items : List Pending) (k : ℕ) → first_diff (drop k items) ≡ pushed_diff (slice_get (works_in items) k)
@@ -171,11 +172,11 @@ named-next (work ∷ works) (suc i) id =
     ∙ or_left_along one (is_named (diffs_in (take (suc i) works)) id) (is_named (diffs_in (take i works)) id) last (named-next works i id)
     ∙ ap (λ b. b || last) (sym (named-first work (take i works) id))
 
-or_first : (a b : Bool) → a ≡ true → a || b ≡ true
+pub or_first : (a b : Bool) → a ≡ true → a || b ≡ true
 or_first true b is = refl
 or_first false b is = absurd cc
 
-or_second : (a b : Bool) → b ≡ true → a || b ≡ true
+pub or_second : (a b : Bool) → b ≡ true → a || b ≡ true
 or_second true b is = refl
 or_second false b is = is
 
@@ -187,3 +188,32 @@ named_there (work ∷ works) zero id is =
     named-first work works id ∙ or_first (is_named (diffs_in (work ∷ [])) id) (is_named (diffs_in works) id) (named-one work id ∙ is)
 named_there (work ∷ works) (suc i) id is =
     named-first work works id ∙ or_second (is_named (diffs_in (work ∷ [])) id) (is_named (diffs_in works) id) (named_there works i id is)
+
+-- how many works events end
+pub ended-more : (events : List DataEvent) (event : DataEvent) → ended (events ++ event ∷ []) ≡ ended events + ended_by event
+ended-more events event = sum_by-append ended_by events (event ∷ []) ∙ ap (λ n. ended events + n) (zero-add (ended_by event))
+
+ops_next : (works : List Work) (k : ℕ) → operations (diffs_in (take (suc k) works)) ≡ operations (diffs_in (take k works)) + length (pushed_diff (slice_get works k))
+ops_next [] zero = refl
+ops_next [] (suc k) = refl
+ops_next (work ∷ works) zero = let one = ops_cons work [] in omega (arith, one)
+ops_next (work ∷ works) (suc k) =
+    let next = ops_next works k in let more = ops_cons work (take (suc k) works) in let was = ops_cons work (take k works) in omega (arith, next, more, was)
+
+-- the works that events ended by a further one have its own work's operations too
+pub ended_ops : (works : List Work) (k : ℕ) (event : DataEvent) → operations (diffs_in (take (k + ended_by event) works)) ≡ operations (diffs_in (take k works)) + length (ended_diff (slice_get works k) event)
+ended_ops works k (Patch diff clock) = let same : k + 0 ≡ k = omega arith in ap (λ n. operations (diffs_in (take n works))) same ∙ sym (add-zero (operations (diffs_in (take k works))))
+ended_ops works k (PushResult client clock action) = rw add-one (ops_next works k)
+
+-- and its ids
+pub ended_named : {X : Type 0} (works : List Work) (k : ℕ) (event : DataEvent) (old new : List (List ℕ × X)) → ((q : List ℕ) → is_named (diffs_in (take k works)) q ≡ true → is_some (value_at old q) ≡ true)
+    → HasIdsOf old new → HasIdsOf (ended_diff (slice_get works k) event) new → (q : List ℕ) → is_named (diffs_in (take (k + ended_by event) works)) q ≡ true → is_some (value_at new q) ≡ true
+ended_named works k (Patch diff clock) old new touched more held q named =
+    let same : k + 0 ≡ k = omega arith in more q (touched q (sym (ap (λ n. is_named (diffs_in (take n works)) q) same) ∙ named))
+ended_named works k (PushResult client clock action) old new touched more held q named =
+    let before = is_named (diffs_in (take k works)) q in
+    let parts : before || is_some (value_at (pushed_diff (slice_get works k)) q) ≡ true = sym (rw add-one (named-next works k q)) ∙ named in
+    elim before as (λ b. before ≡ b → b || is_some (value_at (pushed_diff (slice_get works k)) q) ≡ true → is_some (value_at new q) ≡ true) [
+      | true ↦ λ is all. more q (touched q is)
+      | false ↦ λ is all. held q all
+    ] refl parts

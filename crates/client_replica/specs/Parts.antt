@@ -1,5 +1,5 @@
 -- A base in two parts: the document, and the presence of others.
-use Rattle.std.specs.Prelude.{◌≡◌, ℕ, List, [], length, filter, Bool}
+use Rattle.std.specs.Prelude.{◌≡◌, ℕ, List, length, filter, Bool}
 use Rattle.rooms_val.specs.Data.{Pairs}
 use Rattle.rooms_val.specs.Maps.{AreRising}
 use Rattle.sync_msgs.specs.declared.server_message.Hydration.{Hydration}
@@ -23,12 +23,7 @@ pub record IsTaken (s : SchemaTree) (replica : Replica) (pending : List Pending)
   pub left : replica.pending ≡ pending
   pub rising : AreRising replica.base
 
--- what a hydration leaves of a document before its diff
-abbrev pub left_by : Hydration → Pairs → Pairs
-left_by WipeAll document = []
-left_by WipePresence document = document
-
--- how many records of a document it takes away
+-- how many records of a document a hydration takes away
 abbrev pub wiped : Hydration → Pairs → ℕ
 wiped WipeAll document = length document
 wiped WipePresence document = 0

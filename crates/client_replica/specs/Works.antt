@@ -47,3 +47,12 @@ brought events = sum_by (λ event. length (brought_diff event)) events
 abbrev pub ended_by : DataEvent → ℕ
 ended_by (Patch diff clock) = 0
 ended_by (PushResult client_clock clock action) = 1
+
+-- how many results events have, each of which ends a work
+abbrev pub ended : List DataEvent → ℕ
+ended events = sum_by ended_by events
+
+-- the diff of the work that an event ends, if this is the first that is pending, and the empty one of a patch, a presence or none
+abbrev pub ended_diff : Option model.Work → DataEvent → RecordOps
+ended_diff first (Patch diff clock) = []
+ended_diff first (PushResult client_clock clock action) = pushed_diff first

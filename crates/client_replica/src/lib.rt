@@ -7,8 +7,9 @@
 //! for what events make of a replica.
 #![tactic(auto)]
 
+mod new_base;
 mod own;
-mod rebase;
+mod replay;
 pub mod replica;
 mod stash;
 mod stepping;

@@ -1,5 +1,5 @@
 //! A replica of a room's document, with edits over it that the room hasn't answered.
-ghost use Rattle.std.specs.Prelude.{◌≡◌, ◌+◌, ◌*◌, ◌≤◌, ◌∷◌, [], List, length, drop, map, slice_get, is_some, true, false, IfOk, OnOk, OnErr};
+ghost use Rattle.std.specs.Prelude.{◌≡◌, ◌+◌, ◌*◌, ◌≤◌, ◌∷◌, [], ℕ, List, length, drop, take, map, slice_get, is_some, true, false, IfOk, OnOk, OnErr};
 ghost use Rattle.std.specs.Option.{option_copied};
 ghost use Rattle.std.specs.Borrow.{sem};
 ghost use Rattle.rooms_val.specs.View.{data_of};
@@ -9,17 +9,22 @@ ghost use Rattle.room_model.specs.Replicas.{edit, presence, diff_in};
 ghost use Rattle.room_model.specs.Schemas.{records_with};
 ghost use Rattle.schema_core.specs.SchemaOf.{schema_tree};
 ghost use Rattle.room_model.specs.Taking as model;
-ghost use Rattle.sync_msgs.specs.declared.data_event.DataEvent.{DataEvent};
 ghost use Rattle.room_model.specs.Taking.{after_events, after_hydration};
 ghost use Rattle.client_replica.specs.Parts.{wiped};
-ghost use Rattle.client_replica.specs.Works.{work_of, works_in, diffs_in, operations, brought};
-ghost use Rattle.client_replica.specs.Owns.{are_own, AreChanges};
+ghost use Rattle.client_replica.specs.Works.{work_of, works_in, diffs_in, operations, brought, ended};
+ghost use Rattle.rooms_val.specs.Data.{Pairs};
+ghost use Rattle.rooms_val.specs.Maps.{AreRising, value_at};
+ghost use Rattle.doc_model.specs.Documents.{replay};
+ghost use Rattle.sync_msgs.specs.declared.server_message.Hydration.TheVariants.{WipeAll, WipePresence};
+ghost use Rattle.client_replica.specs.NewBases.{IsOf, NamesWithin};
+ghost use Rattle.client_replica.specs.Owns.{are_own, settled};
 ghost use Rattle.client_replica.specs.Standing.{IsReplica, Stands, admits_of, document_of, presence_of, with_work, alone, after_snapshot};
 
-use crate::own::{own_changes, settle};
-use crate::rebase::{replay, take_events};
+use crate::new_base::NewBase;
+use crate::own::{are_own, settle};
+use crate::replay::replay;
 use crate::stash::Stash;
-use crate::stepping::{step_base, wipe};
+use crate::stepping::{clear, step_base};
 use crate::work::Work;
 use doc_store::{DocStore, apply};
 use field_ops::Diff;
@@ -119,11 +124,12 @@ impl<D: DocStore> Replica<D> {
     }
 
     /// Takes what happened in the room: the events are done to the base in order, and each result ends the first pending
-    /// work. Where each commits the first pending work, the store stays and no step is counted: it costs what the works name,
-    /// and for each id a walk over the works left up to the next that names it. Else the pending edits are undone, and what
-    /// is left is replayed: it costs what is pending, what the events bring, and a copy of the presence of others, and counts
-    /// at most two steps for each pending operation and one for each that the events bring. Where memory is refused the
-    /// replica is as before.
+    /// work. Where each commits the first work that is left then, and these name ids of the document alone, the store stays
+    /// and no step is counted. Else what is shown is written under the ids that the events bring and under those that the
+    /// ended works name, and under no other. It counts at most one step for each operation that the events bring, and two for
+    /// each operation of the works that they end. For each of these ids that pending edits name the works left are walked
+    /// twice. It costs that, and where a presence changes a copy of the list of them; never the document. Where memory is
+    /// refused the replica is as before.
     pub fn take_events<L: Ledger>(
         &mut self,
         alloc: Global,
@@ -140,24 +146,37 @@ impl<D: DocStore> Replica<D> {
         ensures ticks { (replica : model.Replica) → Stands D.records replica self.old
             → steps.new ≤ steps.old + (2 * operations (diffs_in
             (works_in replica.pending)) + brought events.now) }
+        ensures few { (replica : model.Replica) → Stands D.records replica self.old
+            → steps.new ≤ steps.old + (brought events.now + 2 * operations (diffs_in
+            (take (ended events.now) (works_in replica.pending)))) }
         ensures own { OnOk result ((replica : model.Replica) → Stands D.records replica self.old
             → are_own (document_of self.old) (works_in replica.pending) events.now ≡ true
             → (steps.new ≡ steps.old) × (self.new.store ≡ self.old.store)) }
     {
-        let changes = own_changes(alloc, &self.schema, &self.stash, &self.works, events)?;
-        match changes {
-            Some(changes) => {
-                let count = events.as_slice().len();
-                self.settle_own(changes, count);
-                Ok(())
-            }
-            None => self.take_others(alloc, events, steps),
+        let mut base = NewBase::new(alloc, self.others.copy(alloc)?);
+        let answered = base.take_events(
+            alloc,
+            &self.schema,
+            &self.store,
+            &self.stash,
+            &self.works,
+            events,
+        )?;
+        if are_own(&self.schema, &self.works, events) {
+            self.settle(base, answered);
+            drop_first(&mut self.works, answered);
+            return Ok(());
         }
+        self.write_changes(alloc, &base.changes, answered, steps)?;
+        self.settle(base, answered);
+        drop_first(&mut self.works, answered);
+        Ok(())
     }
 
-    /// Takes what the room has: the pending edits are undone, the base is brought to the room's by the diff, and the edits
-    /// are replayed; its own presence is pending last, if there is one. It costs what is pending and what the diff names,
-    /// for `WipeAll` also the base's document. Where memory is refused the replica is as before.
+    /// Takes what the room has: the base is brought to the room's by the diff, and the edits stay pending; the replica's own
+    /// presence is pending last, if there is one. For `WipePresence` it costs what the diff names, with two walks over the
+    /// works for each of these ids that pending edits name; for `WipeAll` the base's document, the diff, and what is pending,
+    /// which is undone and replayed. Where memory is refused the replica is as before.
     pub fn take_snapshot<L: Ledger>(
         &mut self,
         alloc: Global,
@@ -178,18 +197,148 @@ impl<D: DocStore> Replica<D> {
             → steps.new ≤ steps.old + (2 * operations (diffs_in
             (works_in replica.pending)) + length diff.now + wiped hydration (records_with
             (document_of self.old) replica.base)) }
+        ensures few { hydration ≡ WipePresence → steps.new ≤ steps.old + length diff.now }
+    {
+        self.works.reserve(1)?;
+        self.hydrate(alloc, hydration, diff, steps)?;
+        if let Some(record_) = own {
+            self.works.push_back_reserved(Work::Presence(record_));
+        }
+        Ok(())
+    }
+
+    // Brings the base to what a room has.
+    fn hydrate<L: Ledger>(
+        &mut self,
+        alloc: Global,
+        hydration: Hydration,
+        diff: &Diff,
+        steps: &mut Steps<L>,
+    ) -> Mem<()>
+        ensures ok { OnOk result ((replica : model.Replica) → Stands D.records replica self.old
+            → Stands D.records (record replica {
+              base = after_hydration (admits_of self.old)
+                  (document_of self.old) replica.base hydration diff.now;
+            }) self.new) }
+        ensures err { OnErr result ((replica : model.Replica) → Stands D.records replica self.old
+            → Stands D.records replica self.new) }
+        ensures schema { self.new.schema ≡ self.old.schema }
+        ensures works { self.new.works ≡ self.old.works }
+        ensures begun { D.begun self.new.store ≡ D.begun self.old.store }
+        ensures rest { D.rest self.new.store ≡ D.rest self.old.store }
+        ensures ticks { (replica : model.Replica) → Stands D.records replica self.old
+            → steps.new ≤ steps.old + (2 * operations (diffs_in
+            (works_in replica.pending)) + length diff.now + wiped hydration (records_with
+            (document_of self.old) replica.base)) }
+        ensures few { hydration ≡ WipePresence → steps.new ≤ steps.old + length diff.now }
+    {
+        match hydration {
+            Hydration::WipeAll => self.restart(alloc, diff, steps),
+            Hydration::WipePresence => self.go_on(alloc, diff, steps),
+        }
+    }
+
+    // Brings the base to what a room has that remembers what changed since: what is shown is written where the diff changes it.
+    fn go_on<L: Ledger>(&mut self, alloc: Global, diff: &Diff, steps: &mut Steps<L>) -> Mem<()>
+        ensures ok { OnOk result ((replica : model.Replica) → Stands D.records replica self.old
+            → Stands D.records (record replica {
+              base = after_hydration (admits_of self.old)
+                  (document_of self.old) replica.base WipePresence diff.now;
+            }) self.new) }
+        ensures err { OnErr result ((replica : model.Replica) → Stands D.records replica self.old
+            → Stands D.records replica self.new) }
+        ensures schema { self.new.schema ≡ self.old.schema }
+        ensures works { self.new.works ≡ self.old.works }
+        ensures begun { D.begun self.new.store ≡ D.begun self.old.store }
+        ensures rest { D.rest self.new.store ≡ D.rest self.old.store }
+        ensures ticks { steps.new ≤ steps.old + length diff.now }
+    {
+        let mut base = NewBase::new(alloc, Fields::new(alloc));
+        base.step(alloc, &self.schema, &self.store, &self.stash, diff)?;
+        self.write_changes(alloc, &base.changes, 0, steps)?;
+        self.settle(base, 0);
+        Ok(())
+    }
+
+    // Replays the works from a place on over what changed of the base, and writes that to the store.
+    fn write_changes<L: Ledger>(
+        &mut self,
+        alloc: Global,
+        changes: &Stash,
+        from: usize,
+        steps: &mut Steps<L>,
+    ) -> Mem<()>
+        ensures ok { OnOk result ((base : Pairs) → AreRising base
+            → AreRising (D.records self.old.store) → IsOf base changes.now
+            → NamesWithin (diffs_in (map work_of (drop from self.old.works.items))) self.old.stash
+            → ((id : List ℕ) → is_some (value_at changes.now id) ≡ false
+            → value_at (D.records self.old.store) id ≡ value_at (replay (admits_of self.old) base
+            (diffs_in (map work_of (drop from self.old.works.items)))) id)
+            → D.records self.new.store ≡ replay (admits_of self.old) base
+            (diffs_in (map work_of (drop from self.old.works.items)))) }
+        ensures err { OnErr result (D.records self.new.store ≡ D.records self.old.store) }
+        ensures kept { self.new ≡ record self.old { store = self.new.store } }
+        ensures begun { D.begun self.new.store ≡ D.begun self.old.store }
+        ensures rest { D.rest self.new.store ≡ D.rest self.old.store }
+        ensures ticks { steps.new ≤ steps.old + length changes.now }
+    {
+        let shown = changes.replayed(alloc, &self.schema, &self.stash, &self.works, from)?;
+        shown.tell_rising();
+        begin(&mut self.store)?;
+        match shown.write_back(alloc, &mut self.store, steps) {
+            Ok(()) => {
+                self.store.commit();
+                Ok(())
+            }
+            Err(_) => {
+                self.store.abort();
+                Err(OutOfMemory)
+            }
+        }
+    }
+
+    // Keeps a base that went on: of the ids that changed the stash holds those that works from a place on name. It takes no
+    // memory.
+    fn settle(&mut self, base: NewBase, from: usize)
+        ensures stash { NamesWithin (diffs_in (map work_of
+            (drop from self.old.works.items))) self.old.stash → (id : List ℕ)
+            → value_at self.new.stash id ≡ settled (diffs_in (map work_of
+            (drop from self.old.works.items))) base.changes self.old.stash id }
+        ensures rising { AreRising self.new.stash }
+        ensures kept { self.new
+            ≡ record self.old { stash = self.new.stash; others = base.others } }
+    {
+        let NewBase { changes, others } = base;
+        settle(&mut self.stash, &self.works, from, changes);
+        self.stash.tell_rising();
+        self.others = others;
+    }
+
+    // Begins anew from what a room has: the document is wiped, the diff is done, and the edits are replayed.
+    fn restart<L: Ledger>(&mut self, alloc: Global, diff: &Diff, steps: &mut Steps<L>) -> Mem<()>
+        ensures ok { OnOk result ((replica : model.Replica) → Stands D.records replica self.old
+            → Stands D.records (record replica {
+              base = after_hydration (admits_of self.old)
+                  (document_of self.old) replica.base WipeAll diff.now;
+            }) self.new) }
+        ensures err { OnErr result ((replica : model.Replica) → Stands D.records replica self.old
+            → Stands D.records replica self.new) }
+        ensures schema { self.new.schema ≡ self.old.schema }
+        ensures works { self.new.works ≡ self.old.works }
+        ensures begun { D.begun self.new.store ≡ D.begun self.old.store }
+        ensures rest { D.rest self.new.store ≡ D.rest self.old.store }
+        ensures ticks { (replica : model.Replica) → Stands D.records replica self.old
+            → steps.new ≤ steps.old + (2 * operations (diffs_in
+            (works_in replica.pending)) + length diff.now + length (records_with
+            (document_of self.old) replica.base)) }
     {
         let mut others = Fields::new(alloc);
-        self.works.reserve(1)?;
         begin(&mut self.store)?;
-        match self.hydrate(alloc, &mut others, hydration, diff, steps) {
+        match self.rebuild(alloc, &mut others, diff, steps) {
             Ok(stash) => {
                 self.store.commit();
                 self.stash = stash;
                 self.others = others;
-                if let Some(record_) = own {
-                    self.works.push_back_reserved(Work::Presence(record_));
-                }
                 Ok(())
             }
             Err(_) => {
@@ -199,102 +348,11 @@ impl<D: DocStore> Replica<D> {
         }
     }
 
-    // Takes events that commit the first pending works, of which there are so many: the store has what it is to have, and the
-    // base goes on under the stash. It takes no memory.
-    fn settle_own(&mut self, changes: Stash, count: usize)
-        ensures ok { (replica : model.Replica) (events : List DataEvent) → count ≡ length events
-            → Stands D.records replica self.old
-            → are_own (document_of self.old) (map work_of self.old.works.items) events ≡ true
-            → AreChanges (schema_tree self.old.schema) (map work_of self.old.works.items) count self.old.stash changes
-            → Stands D.records (after_events (admits_of self.old) replica events) self.new }
-        ensures kept { self.new
-            ≡ record self.old { stash = self.new.stash; works = self.new.works } }
-    {
-        settle(&mut self.stash, &self.works, count, changes);
-        self.stash.tell_rising();
-        drop_first(&mut self.works, count);
-    }
-
-    // Takes events for which the pending edits are undone and what is left of them is replayed.
-    fn take_others<L: Ledger>(
-        &mut self,
-        alloc: Global,
-        events: &Events,
-        steps: &mut Steps<L>,
-    ) -> Mem<()>
-        ensures ok { OnOk result ((replica : model.Replica) → Stands D.records replica self.old
-            → Stands D.records (after_events (admits_of self.old) replica events.now) self.new) }
-        ensures err { OnErr result ((replica : model.Replica) → Stands D.records replica self.old
-            → Stands D.records replica self.new) }
-        ensures schema { self.new.schema ≡ self.old.schema }
-        ensures begun { D.begun self.new.store ≡ D.begun self.old.store }
-        ensures rest { D.rest self.new.store ≡ D.rest self.old.store }
-        ensures ticks { (replica : model.Replica) → Stands D.records replica self.old
-            → steps.new ≤ steps.old + (2 * operations (diffs_in
-            (works_in replica.pending)) + brought events.now) }
-    {
-        let mut others = self.others.copy(alloc)?;
-        begin(&mut self.store)?;
-        match self.rebase(alloc, &mut others, events, steps) {
-            Ok(rebased) => {
-                self.store.commit();
-                self.settle(rebased, others);
-                Ok(())
-            }
-            Err(_) => {
-                self.store.abort();
-                Err(OutOfMemory)
-            }
-        }
-    }
-
-    // Undoes the pending edits, does the events to the base, and replays what they leave.
-    fn rebase<L: Ledger>(
+    // Wipes the store, does the diff, and replays the edits.
+    fn rebuild<L: Ledger>(
         &mut self,
         alloc: Global,
         others: &mut Fields,
-        events: &Events,
-        steps: &mut Steps<L>,
-    ) -> Mem<Rebased>
-        ensures ok { IfOk result (λ rebased. (replica : model.Replica)
-            → Stands D.records replica self.old → others.old ≡ self.old.others
-            → IsReplica (schema_tree self.old.schema) (D.records self.new.store) (map work_of
-            (drop rebased.answered self.old.works.items)) rebased.stash others.new (after_events
-            (admits_of self.old) replica events.now)) }
-        ensures kept { self.new ≡ record self.old { store = self.new.store } }
-        ensures begun { D.begun self.new.store ≡ D.begun self.old.store }
-        ensures rest { D.rest self.new.store ≡ D.rest self.old.store }
-        ensures ticks { (replica : model.Replica) → Stands D.records replica self.old
-            → steps.new ≤ steps.old + (2 * operations (diffs_in
-            (works_in replica.pending)) + brought events.now) }
-    {
-        self.stash.write_back(alloc, &mut self.store, steps)?;
-        let answered = take_events(
-            alloc,
-            &self.schema,
-            &mut self.store,
-            others,
-            &self.works,
-            events,
-            steps,
-        )?;
-        let stash = replay(
-            alloc,
-            &self.schema,
-            &mut self.store,
-            &self.works,
-            answered,
-            steps,
-        )?;
-        Ok(Rebased { stash, answered })
-    }
-
-    // Undoes the pending edits, brings the base to what the room has, and replays the edits.
-    fn hydrate<L: Ledger>(
-        &mut self,
-        alloc: Global,
-        others: &mut Fields,
-        hydration: Hydration,
         diff: &Diff,
         steps: &mut Steps<L>,
     ) -> Mem<Stash>
@@ -304,33 +362,21 @@ impl<D: DocStore> Replica<D> {
             (map work_of self.old.works.items) stash others.new
             (record replica {
               base = after_hydration (admits_of self.old)
-                  (document_of self.old) replica.base hydration diff.now;
+                  (document_of self.old) replica.base WipeAll diff.now;
             })) }
         ensures kept { self.new ≡ record self.old { store = self.new.store } }
         ensures begun { D.begun self.new.store ≡ D.begun self.old.store }
         ensures rest { D.rest self.new.store ≡ D.rest self.old.store }
         ensures ticks { (replica : model.Replica) → Stands D.records replica self.old
             → steps.new ≤ steps.old + (2 * operations (diffs_in
-            (works_in replica.pending)) + length diff.now + wiped hydration (records_with
+            (works_in replica.pending)) + length diff.now + length (records_with
             (document_of self.old) replica.base)) }
     {
         self.stash.write_back(alloc, &mut self.store, steps)?;
-        wipe(alloc, hydration, &mut self.store, steps)?;
+        clear(alloc, &mut self.store, steps)?;
         step_base(alloc, &self.schema, &mut self.store, others, diff, steps)?;
         let stash = replay(alloc, &self.schema, &mut self.store, &self.works, 0, steps)?;
         Ok(stash)
-    }
-
-    // Keeps what a rebase gave.
-    fn settle(&mut self, rebased: Rebased, others: Fields)
-        ensures works { self.new.works.items ≡ drop rebased.answered self.old.works.items }
-        ensures kept { self.new
-            ≡ record self.old { stash = rebased.stash; others = others; works = self.new.works } }
-    {
-        let Rebased { stash, answered } = rebased;
-        self.stash = stash;
-        self.others = others;
-        drop_first(&mut self.works, answered);
     }
 
     /// The schema that says what is admitted.
@@ -375,15 +421,6 @@ impl<D: DocStore> Replica<D> {
     {
         self.works.get(place)
     }
-}
-
-// What a rebase gives.
-#[derive(Drop)]
-struct Rebased {
-    // What stood in the new base under the ids that the edits left name.
-    stash: Stash,
-    // How many works the events ended.
-    answered: usize,
 }
 
 // Opens a transaction of a store.

@@ -1,5 +1,5 @@
 //! The stash: what stood in a document under the ids that edits name.
-ghost use Rattle.std.specs.Prelude.{◌≡◌, ◌≤◌, ◌+◌, ◌||◌, [], ◌∷◌, None, Some, true, ℕ, List, length, IfOk, IfSome, IfNone, OnOk, OnErr, is_some, string_bytes};
+ghost use Rattle.std.specs.Prelude.{◌≡◌, ◌≤◌, ◌+◌, ◌||◌, [], ◌∷◌, None, Some, true, ℕ, List, length, map, drop, if◌then◌else◌, IfOk, IfSome, IfNone, OnOk, OnErr, is_some, string_bytes};
 ghost use Rattle.std.specs.Option.{option_copied};
 ghost use Rattle.rooms_val.specs.Maps.{AreRising, value_at, with_key, without_key};
 ghost use Rattle.field_ops.specs.View.{maybe_data};
@@ -8,16 +8,21 @@ ghost use Rattle.schema_core.specs.Admits.{is_admitted};
 ghost use Rattle.schema_core.specs.SchemaOf.{schema_tree};
 ghost use Rattle.doc_model.specs.Inverses.{record_after};
 ghost use Rattle.doc_store.specs.Slots.{held};
-ghost use Rattle.client_replica.specs.Owns.{laid};
+ghost use Rattle.doc_model.specs.Documents.{replay};
+ghost use Rattle.rooms_val.specs.Data.{Pairs};
+ghost use Rattle.client_replica.specs.NewBases.{laid, IsOf, NamesWithin};
+ghost use Rattle.client_replica.specs.Works.{work_of, diffs_in};
 ghost use Rattle.client_replica.specs.Stashes.{under, written_over, kept, without_all};
 
+use crate::replay::replay_at;
 use crate::stepping::record_left;
+use crate::work::Work;
 use doc_store::DocStore;
 use field_ops::{Diff, RecordOp};
 use rooms_val::{Mem, OutOfMemory, Steps, Text, Val};
 use schema_core::Schema;
 use std::alloc::Global;
-use std::collections::BTreeMap;
+use std::collections::{BTreeMap, VecDeque};
 use std::marker::Model;
 use std::sync::ledger::Ledger;
 
@@ -59,8 +64,8 @@ impl Stash {
         let _ = self.tree.len();
     }
 
-    // Whether it holds an id.
-    fn has(&self, id: &str) -> bool
+    /// Whether it holds an id.
+    pub(crate) fn has(&self, id: &str) -> bool
         ensures { result ≡ is_some (value_at self.now id.now) }
     {
         match self.tree.get(id) {
@@ -131,32 +136,113 @@ impl Stash {
         self.tree.pop_first()
     }
 
-    /// The record under an id of which this stash has changes of another, which lies under it.
-    pub(crate) fn over<'a>(&'a self, stash: &'a Stash, id: &str) -> Option<&'a Val>
-        ensures { maybe_data (option_copied result) ≡ laid self.now stash.now [] id.now }
+    /// The record under an id as it changed, which this holds, else as the stash has it, else as the store has it.
+    pub(crate) fn base_at<'a, D: DocStore>(
+        &'a self,
+        stash: &'a Stash,
+        store: &'a D,
+        id: &str,
+    ) -> Option<&'a Val>
+        ensures { maybe_data (option_copied result)
+            ≡ laid self.now stash.now (D.records store.now) id.now }
     {
         if self.has(id) {
             self.get(id)
-        } else {
+        } else if stash.has(id) {
             stash.get(id)
+        } else {
+            store.get(id)
         }
     }
 
-    /// Holds under an id of another stash, which lies under it, what an operation makes of the record there.
-    pub(crate) fn step(
+    /// Holds under an id what an operation makes of the record that `base_at` gives.
+    pub(crate) fn step<D: DocStore>(
         &mut self,
         alloc: Global,
         schema: &Schema,
+        store: &D,
         stash: &Stash,
         id: &Text,
         op: &RecordOp,
     ) -> Mem<()>
-        ensures { OnOk result (self.new ≡ with_key self.old id.now (record_after (is_admitted (schema_tree schema.now)) id.now (Some (change_of op.now)) (laid self.old stash.now [] id.now))) }
+        ensures { OnOk result (self.new ≡ with_key self.old id.now
+            (record_after (is_admitted (schema_tree schema.now)) id.now (Some (change_of op.now))
+            (laid self.old stash.now (D.records store.now) id.now))) }
     {
-        let before = self.over(stash, id.as_str());
+        let before = self.base_at(stash, store, id.as_str());
         let slot = record_left(alloc, schema, id.as_str(), before, op)?;
         let key = String::from_str(alloc, id.as_str())?;
         self.put(key, slot)
+    }
+
+    /// Holds the record that `base_at` gives under an id, where it doesn't hold the id yet.
+    pub(crate) fn touch<D: DocStore>(
+        &mut self,
+        alloc: Global,
+        store: &D,
+        stash: &Stash,
+        id: &Text,
+    ) -> Mem<()>
+        ensures { OnOk result (self.new
+            ≡ kept self.old id.now (laid self.old stash.now (D.records store.now) id.now)) }
+    {
+        if self.has(id.as_str()) {
+            return Ok(());
+        }
+        let slot = Val::copy_of(alloc, self.base_at(stash, store, id.as_str()))?;
+        let key = String::from_str(alloc, id.as_str())?;
+        self.put(key, slot)
+    }
+
+    // What the edits among the works from a place on make of the record under an id, if this stash holds the ids that they
+    // name.
+    fn replayed_at(
+        &self,
+        alloc: Global,
+        schema: &Schema,
+        works: &VecDeque<Work>,
+        from: usize,
+        id: &str,
+        slot: &Option<Val>,
+    ) -> Mem<Option<Val>>
+        ensures { IfOk result (λ after. (base : Pairs) → value_at base id.now ≡ maybe_data slot.now
+            → NamesWithin (diffs_in (map work_of (drop from works.now.items))) self.now
+            → value_at (replay (is_admitted (schema_tree schema.now)) base (diffs_in
+            (map work_of (drop from works.now.items)))) id.now ≡ maybe_data after) }
+    {
+        if self.has(id) {
+            replay_at(alloc, schema, works, from, id, slot)
+        } else {
+            Val::copy_slot(alloc, slot)
+        }
+    }
+
+    /// What the edits among the works from a place on make of each record that it holds. The works are walked for an id of
+    /// the stash alone, since they name no other.
+    pub(crate) fn replayed(
+        &self,
+        alloc: Global,
+        schema: &Schema,
+        stash: &Stash,
+        works: &VecDeque<Work>,
+        from: usize,
+    ) -> Mem<Stash>
+        ensures at { IfOk result (λ shown. (base : Pairs)
+            → IsOf base self.now
+            → NamesWithin (diffs_in (map work_of (drop from works.now.items))) stash.now
+            → (id : List ℕ) → value_at shown id ≡ (if is_some (value_at self.now id)
+            then Some (value_at (replay (is_admitted (schema_tree schema.now)) base
+            (diffs_in (map work_of (drop from works.now.items)))) id) else None)) }
+        ensures few { IfOk result (λ shown. length shown ≤ length self.now) }
+    {
+        self.tell_rising();
+        let mut shown = Stash::new(alloc);
+        for (id, slot) in &self.tree {
+            shown.tell_rising();
+            let record_ = stash.replayed_at(alloc, schema, works, from, id.as_str(), slot)?;
+            shown.put(String::from_str(alloc, id.as_str())?, record_)?;
+        }
+        Ok(shown)
     }
 
     /// Holds an id no more.

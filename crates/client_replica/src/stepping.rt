@@ -8,7 +8,7 @@ ghost use Rattle.schema_core.specs.SchemaOf.{schema_tree};
 ghost use Rattle.std.specs.Option.{option_copied};
 ghost use Rattle.doc_model.specs.Documents.{step, step_at};
 ghost use Rattle.doc_model.specs.Inverses.{record_after};
-ghost use Rattle.client_replica.specs.Parts.{ops_with, left_by, wiped};
+ghost use Rattle.client_replica.specs.Parts.{ops_with};
 ghost use Rattle.room_schemas.specs.Decided.{is_presence};
 
 use doc_store::{DocStore, step_record};
@@ -17,7 +17,6 @@ use rooms_val::{Fields, Mem, Steps, Text, Val};
 use schema_core::{Schema, Scope};
 use std::alloc::Global;
 use std::sync::ledger::Ledger;
-use sync_msgs::Hydration;
 
 /// The step of a base by a diff: the document's part is done to the store, that of presences to the others.
 pub(crate) fn step_base<D: DocStore, L: Ledger>(
@@ -117,8 +116,8 @@ pub(crate) fn record_left(
     }
 }
 
-// Does one operation to the presence under an id, where it acts.
-fn step_others(
+/// Does one operation to the presence under an id, where it acts.
+pub(crate) fn step_others(
     alloc: Global,
     schema: &Schema,
     others: &mut Fields,
@@ -146,27 +145,12 @@ fn set(alloc: Global, others: &mut Fields, id: &Text, after: Option<Val>) -> Mem
     Ok(())
 }
 
-/// Takes away the records that a hydration doesn't leave.
-pub(crate) fn wipe<D: DocStore, L: Ledger>(
+/// Takes all records of a store away.
+pub(crate) fn clear<D: DocStore, L: Ledger>(
     alloc: Global,
-    hydration: Hydration,
     store: &mut D,
     steps: &mut Steps<L>,
 ) -> Mem<()>
-    ensures ok { OnOk result (AreRising (D.records store.old)
-        → D.records store.new ≡ left_by hydration (D.records store.old)) }
-    ensures begun { D.begun store.new ≡ D.begun store.old }
-    ensures rest { D.rest store.new ≡ D.rest store.old }
-    ensures ticks { steps.new ≤ steps.old + wiped hydration (D.records store.old) }
-{
-    match hydration {
-        Hydration::WipeAll => clear(alloc, store, steps),
-        Hydration::WipePresence => Ok(()),
-    }
-}
-
-// Takes all records of a store away.
-fn clear<D: DocStore, L: Ledger>(alloc: Global, store: &mut D, steps: &mut Steps<L>) -> Mem<()>
     ensures ok { OnOk result (AreRising (D.records store.old) → D.records store.new ≡ []) }
     ensures begun { D.begun store.new ≡ D.begun store.old }
     ensures rest { D.rest store.new ≡ D.rest store.old }

@@ -1,7 +1,7 @@
-use Rattle.std.proofs.Common.{◌≡◌, ℕ, List, true, length, map, drop}
-use Rattle.std.specs.Prelude.{is_some}
-use Rattle.rooms_val.specs.Maps.{AreRising, value_at}
+use Rattle.std.proofs.Common.{◌≡◌, ℕ, List, length, map, drop}
+use Rattle.rooms_val.specs.Maps.{AreRising}
 use Rattle.client_replica.specs.Works.{work_of, diffs_in}
+use Rattle.client_replica.specs.NewBases.{NamesWithin}
 use Rattle.client_replica.specs.Owns.{settled}
 use Rattle.client_replica.proofs.own.settle.Given as goal
 
@@ -9,8 +9,7 @@ abbrev pub invariant-ids : goal.invariant-ids
 invariant-ids l =
     let left = diffs_in (map work_of (drop l.fn.from l.fn.works.items)) in
     record {
-      settles : ((q : List ℕ) → is_some (value_at l.initial.changes q) ≡ true → is_some (value_at l.initial.stash q) ≡ true)
-          → ((q : List ℕ) → settled left l.changes l.stash q ≡ settled left l.initial.changes l.initial.stash q) × ((q : List ℕ) → is_some (value_at l.changes q) ≡ true → is_some (value_at l.stash q) ≡ true);
+      settles : NamesWithin left l.initial.stash → ((q : List ℕ) → settled left l.changes l.stash q ≡ settled left l.initial.changes l.initial.stash q) × NamesWithin left l.stash;
       rising : AreRising l.changes;
     }
 

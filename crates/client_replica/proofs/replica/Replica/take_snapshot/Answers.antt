@@ -1,4 +1,4 @@
-use Rattle.std.proofs.Common.{[], ◌∷◌, ◌++◌, map, refl, sym, ap, ◌∙◌}
+use Rattle.std.proofs.Common.{[], ◌∷◌, ◌++◌, map, refl, sym, ap, subst, ◌∙◌}
 use Rattle.std.specs.Prelude.{option_to_list}
 use Rattle.std.proofs.lemmas.List.{map-append, append-nil}
 use Rattle.field_ops.specs.View.{maybe_data}
@@ -8,7 +8,7 @@ use Rattle.room_model.specs.Replicas.{presence}
 use Rattle.room_model.specs.Taking.{after_hydration}
 use Rattle.client_replica.specs.declared.work.Work.TheVariants.{Presence}
 use Rattle.client_replica.specs.Works.{work_of}
-use Rattle.client_replica.specs.Standing.{after_snapshot}
+use Rattle.client_replica.specs.Standing.{IsReplica, after_snapshot}
 use Rattle.client_replica.proofs.ReplicaLemmas.{shown_last, moved}
 use Rattle.client_replica.proofs.replica.Replica.take_snapshot.Goals as goal
 
@@ -21,16 +21,12 @@ returns-in-Some-clause-ok g c = λ replica stands.
     let items = c.reserve.new.self.items in
     let own = maybe_data c.args.own in
     let base = after_hydration (is_admitted s) (is_document s) replica.base c.args.hydration c.args.diff.now in
-    let kept = c.in-Ok.ensures.kept in
-    let same = c.in_ok-reserve.ensures.items in
-    let began = moved s s (records r.store) (records c.begin.new.store) (map work_of r.works.items) (map work_of items) r.stash r.others replica refl (sym c.in_ok-begin.ensures.records) (ap (map work_of) (sym same)) stands in
-    let done =
-    shown_last s (records h.store) (map work_of items) c.in-Ok.stash c.hydrate.new.others replica base own (ap (map work_of) same ∙ stands.works_are) (c.in-Ok.ensures.ok replica began c.new-others.ensures) in
-    moved s (schema_tree h.schema) (records h.store) (records c.commit.new.self) (map work_of items ++ map presence (option_to_list own)) (map work_of c.push_back_reserved.new.self.items) c.in-Ok.stash c.hydrate.new.others
-    (after_snapshot (is_admitted s) (is_document s) c.args.hydration c.args.diff.now own replica)
-    (ap (λ x. schema_tree x.schema) (sym kept)) (sym c.commit.ensures.records)
-    (ap (λ o. map work_of items ++ map presence (option_to_list (maybe_data o))) c.in-Some.is ∙ sym (map-append work_of items (Presence c.in-Some.record_ ∷ []))
-    ∙ ap (λ x. map work_of (x.works.items ++ Presence c.in-Some.record_ ∷ [])) (sym kept) ∙ ap (map work_of) (sym c.push_back_reserved.ensures.items)) done
+    let same = ap (map work_of) c.in_ok-reserve.ensures.items in
+    let began = moved s s (records r.store) (records r.store) (map work_of r.works.items) (map work_of items) r.stash r.others replica refl refl (sym same) stands in
+    let works = ap (λ w. map work_of w.items) c.in_ok-hydrate.ensures.works ∙ same in
+    subst (λ ws. IsReplica (schema_tree h.schema) (records h.store) ws h.stash h.others (after_snapshot (is_admitted s) (is_document s) c.args.hydration c.args.diff.now own replica))
+    (ap (λ o. map work_of h.works.items ++ map presence (option_to_list (maybe_data o))) c.in-Some.is ∙ sym (map-append work_of h.works.items (Presence c.in-Some.record_ ∷ [])) ∙ ap (map work_of) (sym c.push_back_reserved.ensures.items))
+    (shown_last (schema_tree h.schema) (records h.store) (map work_of h.works.items) h.stash h.others replica base own (works ∙ stands.works_are) (c.in_ok-hydrate.ensures.ok replica began))
 
 pub returns-in_default-clause-ok : goal.returns-in_default-clause-ok
 returns-in_default-clause-ok g c = λ replica stands.
@@ -41,12 +37,9 @@ returns-in_default-clause-ok g c = λ replica stands.
     let items = c.reserve.new.self.items in
     let own = maybe_data c.args.own in
     let base = after_hydration (is_admitted s) (is_document s) replica.base c.args.hydration c.args.diff.now in
-    let kept = c.in-Ok.ensures.kept in
-    let same = c.in_ok-reserve.ensures.items in
-    let began = moved s s (records r.store) (records c.begin.new.store) (map work_of r.works.items) (map work_of items) r.stash r.others replica refl (sym c.in_ok-begin.ensures.records) (ap (map work_of) (sym same)) stands in
-    let done =
-    shown_last s (records h.store) (map work_of items) c.in-Ok.stash c.hydrate.new.others replica base own (ap (map work_of) same ∙ stands.works_are) (c.in-Ok.ensures.ok replica began c.new-others.ensures) in
-    moved s (schema_tree h.schema) (records h.store) (records c.commit.new.self) (map work_of items ++ map presence (option_to_list own)) (map work_of h.works.items) c.in-Ok.stash c.hydrate.new.others
-    (after_snapshot (is_admitted s) (is_document s) c.args.hydration c.args.diff.now own replica)
-    (ap (λ x. schema_tree x.schema) (sym kept)) (sym c.commit.ensures.records)
-    (ap (λ o. map work_of items ++ map presence (option_to_list (maybe_data o))) c.in_default.is ∙ append-nil (map work_of items) ∙ ap (λ x. map work_of x.works.items) (sym kept)) done
+    let same = ap (map work_of) c.in_ok-reserve.ensures.items in
+    let began = moved s s (records r.store) (records r.store) (map work_of r.works.items) (map work_of items) r.stash r.others replica refl refl (sym same) stands in
+    let works = ap (λ w. map work_of w.items) c.in_ok-hydrate.ensures.works ∙ same in
+    subst (λ ws. IsReplica (schema_tree h.schema) (records h.store) ws h.stash h.others (after_snapshot (is_admitted s) (is_document s) c.args.hydration c.args.diff.now own replica))
+    (ap (λ o. map work_of h.works.items ++ map presence (option_to_list (maybe_data o))) c.in_default.is ∙ append-nil (map work_of h.works.items))
+    (shown_last (schema_tree h.schema) (records h.store) (map work_of h.works.items) h.stash h.others replica base own (works ∙ stands.works_are) (c.in_ok-hydrate.ensures.ok replica began))
