@@ -1,9 +1,15 @@
 -- Pending items by their numbers.
-use Rattle.std.proofs.Common.{◌≡◌, ◌≤◌, ◌<◌, ◌+◌, ℕ, zero, suc, List, [], ◌∷◌, ◌++◌, length, drop, Some, slice_get, refl, sym, ap, ◌∙◌, arith}
+use Rattle.std.proofs.Common.{◌≡◌, ◌≤◌, ◌<◌, ◌+◌, ◌*◌, Bool, ℕ, zero, suc, List, [], ◌∷◌, ◌++◌, length, drop, Some, slice_get, refl, sym, ap, ◌∙◌, arith}
 use Rattle.std.specs.Prelude.{filter_map}
 use Rattle.std.specs.List.{cons_option}
 use Rattle.room_model.specs.Replicas.{Work, Pending, diff_in, unsent, all_unsent, first_unsent, send_first}
-use Rattle.client_replica.specs.Works.{works_in, diffs_in}
+use Rattle.client_replica.specs.Works.{works_in, diffs_in, operations}
+use Rattle.field_ops.specs.RecordOps.{RecordOps}
+use Rattle.sync_msgs.specs.declared.server_message.Hydration.{Hydration}
+use Rattle.sync_msgs.specs.declared.server_message.Hydration.TheVariants.{WipeAll, WipePresence}
+use Rattle.room_model.specs.Schemas.{records_with}
+use Rattle.client_replica.specs.Parts.{wiped}
+use Rattle.sync_client.specs.Calls.{Held, answer_steps}
 use Rattle.sync_client.specs.Numbers.{numbered, expected}
 use Rattle.sync_client.specs.Faults.{first_number}
 
@@ -56,3 +62,10 @@ number-numbered first zero [] within = refl
 number-numbered first zero (work ∷ works) within = refl
 number-numbered first (suc sent) [] within = absurd (omega arith)
 number-numbered first (suc sent) (work ∷ works) within = grind arith
+
+-- how few steps an answer takes
+pub answer_few : (is_doc : List ℕ → Bool) (held : Held) (hydration : Hydration) (diff : RecordOps) (old new : ℕ)
+    → new ≤ old + (2 * operations (diffs_in (works_in held.client.pending)) + length diff + wiped hydration (records_with is_doc held.base)) → (hydration ≡ WipePresence → new ≤ old + length diff)
+    → new ≤ old + answer_steps is_doc held hydration diff
+answer_few is_doc held WipeAll diff old new all few = let same = ap operations (diffs-pending held.client.pending) in omega (arith, all, same)
+answer_few is_doc held WipePresence diff old new all few = few refl

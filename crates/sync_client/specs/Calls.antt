@@ -1,5 +1,5 @@
 -- What the calls of a client make of it and of its base, beside what `room_model` says.
-use Rattle.std.specs.Prelude.{ℕ, ◌+◌, ℤ, List, ◌++◌, length, map, decimal, Bool, true, false, Option, Some, option_map, option_to_list, unwrap_or, Result, Ok, Err}
+use Rattle.std.specs.Prelude.{ℕ, ◌+◌, ◌*◌, ℤ, List, ◌++◌, length, take, map, decimal, Bool, true, false, Option, Some, option_map, option_to_list, unwrap_or, Result, Ok, Err}
 use Rattle.std.specs.Option.{option_map_or}
 use Rattle.rooms_val.specs.Data.{Data, Pairs}
 use Rattle.field_ops.specs.RecordOps.{RecordOps}
@@ -8,6 +8,7 @@ use Rattle.sync_msgs.specs.declared.client_message.ClientMessage.{ClientMessage}
 use Rattle.sync_msgs.specs.declared.client_message.ClientMessage.TheVariants as said
 use Rattle.sync_msgs.specs.declared.data_event.DataEvent.{DataEvent}
 use Rattle.sync_msgs.specs.declared.server_message.Hydration.{Hydration}
+use Rattle.sync_msgs.specs.declared.server_message.Hydration.TheVariants.{WipeAll, WipePresence}
 use Rattle.sync_msgs.specs.declared.server_message.ServerMessage.{ServerMessage}
 use Rattle.sync_msgs.specs.declared.server_message.ServerMessage.TheVariants as message
 use Rattle.room_model.specs.Replicas.{Client, Pushing, push_none, next_push, pending_diffs, all_unsent, edit, presence, session_of}
@@ -18,7 +19,7 @@ use Rattle.room_model.specs.declared.connection.Connection.TheVariants.{Off, Ask
 use Rattle.room_model.specs.declared.fault.ConnectFault.{ConnectFault}
 use Rattle.room_model.specs.declared.fault.ConnectFault.TheVariants.{AlreadyOpen, Refused}
 use Rattle.room_model.specs.declared.limits.TheConstants.{PROTOCOL}
-use Rattle.client_replica.specs.Works.{works_in, brought}
+use Rattle.client_replica.specs.Works.{works_in, diffs_in, operations, brought, ended}
 use Rattle.client_replica.specs.Owns.{are_own}
 use Rattle.client_replica.specs.Parts.{wiped}
 use Rattle.sync_client.specs.Faults.{clock_after}
@@ -96,3 +97,14 @@ abbrev pub message_steps : (List ℕ → Bool) → Pairs → ServerMessage → �
 message_steps is_doc base (message.Connect hydration request protocol schema diff clock readonly) = length diff + wiped hydration (records_with is_doc base)
 message_steps is_doc base (message.Data events) = brought events
 message_steps is_doc base message.Pong = 0
+
+-- how many steps an answer may take: those of its operations, and if the document is wiped also those of all that is pending and of the document
+abbrev pub answer_steps : (List ℕ → Bool) → Held → Hydration → RecordOps → ℕ
+answer_steps is_doc held WipeAll diff = 2 * operations (pending_diffs held.client) + (length diff + length (records_with is_doc held.base))
+answer_steps is_doc held WipePresence diff = length diff
+
+-- how many a message may take: data take those of the operations that they bring, and twice those of the works that they end
+abbrev pub few_steps : (List ℕ → Bool) → Held → ServerMessage → ℕ
+few_steps is_doc held (message.Connect hydration request protocol schema diff clock readonly) = answer_steps is_doc held hydration diff
+few_steps is_doc held (message.Data events) = brought events + 2 * operations (diffs_in (take (ended events) (works_in held.client.pending)))
+few_steps is_doc held message.Pong = 0

@@ -1,5 +1,5 @@
 //! A client of a room.
-ghost use Rattle.std.specs.Prelude.{ℕ, true, false, ◌≡◌, ◌+◌, ◌*◌, ◌≤◌, ◌<◌, ◌^◌, [], length, pos, negsuc, None, Some, Ok, Err, option_map, option_to_list, IfOk, OnOk, OnErr, IfErr, decimal};
+ghost use Rattle.std.specs.Prelude.{ℕ, true, false, ◌≡◌, ◌+◌, ◌*◌, ◌≤◌, ◌<◌, ◌^◌, [], length, take, pos, negsuc, None, Some, Ok, Err, option_map, option_to_list, IfOk, OnOk, OnErr, IfErr, decimal};
 ghost use Rattle.std.specs.Option.{option_map_or};
 ghost use Rattle.std.specs.Borrow.{sem};
 ghost use Rattle.rooms_val.specs.Answers.{Gives};
@@ -15,10 +15,10 @@ ghost use Rattle.room_model.specs.Replicas as model;
 ghost use Rattle.room_model.specs.declared.fault.ConnectFault.TheVariants as connect_fault;
 ghost use Rattle.client_replica.specs.Standing.{admits_of, document_of, presence_of};
 ghost use Rattle.client_replica.specs.Parts.{wiped};
-ghost use Rattle.client_replica.specs.Works.{work_of, works_in, operations, brought};
+ghost use Rattle.client_replica.specs.Works.{work_of, works_in, diffs_in, operations, brought, ended};
 ghost use Rattle.client_replica.specs.Owns.{are_own};
 ghost use Rattle.sync_client.specs.Calls as calls;
-ghost use Rattle.sync_client.specs.Calls.{Held, connect_answer, opened, hydrated, updated, asking, pushed, after_message, message_steps, is_own_message};
+ghost use Rattle.sync_client.specs.Calls.{Held, connect_answer, opened, hydrated, updated, asking, pushed, after_message, message_steps, answer_steps, few_steps, is_own_message};
 ghost use Rattle.std.specs.Result.{result_err};
 ghost use Rattle.sync_client.specs.Faults as faults;
 ghost use Rattle.sync_client.specs.Faults.{take_fault};
@@ -218,10 +218,10 @@ impl<D: DocStore> SyncClient<D> {
     }
 
     /// Takes a message of the room. An answer to its request connects it: its base is brought to the room's clock, the
-    /// pending edits are replayed, and all is to be pushed, its own presence last. Data changes its base event by event, and
-    /// each result ends the first pending work. It costs what is pending and what the message brings, for `WipeAll` also
-    /// the base's document, and never the document otherwise. Where each event commits the first pending work, it costs
-    /// what those name, and a walk over the works left up to the next that names the same.
+    /// pending edits stay, and all is to be pushed, its own presence last. Data changes its base event by event, and
+    /// each result ends the first pending work. It costs what the message brings and what the works name that it ends, with
+    /// two walks over the works left for each of these ids that pending edits name; for `WipeAll` all that is pending and the
+    /// base's document, and never the document otherwise.
     ///
     /// # Errors
     /// The first event at fault decides, and of an event the first cause in the order of `TakeFault`; `OutOfMemory` may
@@ -246,6 +246,8 @@ impl<D: DocStore> SyncClient<D> {
         ensures ticks { (held : Held) → Stands D.records held self.old
             → steps.new ≤ steps.old + (2 * operations (pending_diffs held.client) + message_steps
             (document_of self.old.replica) held.base message.now) }
+        ensures few { (held : Held) → Stands D.records held self.old
+            → steps.new ≤ steps.old + few_steps (document_of self.old.replica) held message.now }
         ensures own { OnOk result ((held : Held) → Stands D.records held self.old
             → is_own_message (document_of self.old.replica) held.client message.now ≡ true
             → (steps.new ≡ steps.old) × (self.new.replica.store ≡ self.old.replica.store)) }
@@ -401,6 +403,9 @@ impl<D: DocStore> SyncClient<D> {
             → steps.new ≤ steps.old + (2 * operations (pending_diffs held.client) +
             (length diff.now + wiped hydration (records_with
             (document_of self.old.replica) held.base))) }
+        ensures few { (held : Held) → Stands D.records held self.old
+            → steps.new ≤ steps.old + answer_steps (document_of self.old.replica) held hydration
+            diff.now }
     {
         let own = Val::copy_slot(alloc, &self.presence)?;
         self.replica
@@ -433,6 +438,9 @@ impl<D: DocStore> SyncClient<D> {
         ensures ticks { (held : Held) → Stands D.records held self.old
             → steps.new ≤ steps.old + (2 * operations
             (pending_diffs held.client) + brought events.now) }
+        ensures few { (held : Held) → Stands D.records held self.old
+            → steps.new ≤ steps.old + (brought events.now + 2 * operations (diffs_in
+            (take (ended events.now) (works_in held.client.pending)))) }
         ensures own { OnOk result ((held : Held) → Stands D.records held self.old
             → are_own (document_of self.old.replica) (works_in held.client.pending) events.now ≡ true
             → (steps.new ≡ steps.old) × (self.new.replica.store ≡ self.old.replica.store)) }

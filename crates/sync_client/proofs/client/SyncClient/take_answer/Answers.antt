@@ -4,7 +4,8 @@ use mir.Val.{to_z, of_z}
 use Rattle.field_ops.specs.View.{maybe_data}
 use Rattle.client_replica.specs.Works.{operations}
 use Rattle.sync_client.specs.Calls.{replica_of}
-use Rattle.sync_client.proofs.NumberLemmas.{diffs-pending}
+use Rattle.client_replica.specs.Standing.{document_of}
+use Rattle.sync_client.proofs.NumberLemmas.{diffs-pending, answer_few}
 use Rattle.sync_client.proofs.ClientLemmas.{after_snapshot, still, if_err}
 use Rattle.sync_client.proofs.client.SyncClient.take_answer.Goals as goal
 
@@ -25,6 +26,16 @@ returns-clause-ticks g c = λ held stands.
     let ticked = c.in_ok-take_snapshot.ensures.ticks (replica_of held) stands.replica in
     let same = ap operations (diffs-pending held.client.pending) in
     omega arith
+
+pub returns-in_err-take_snapshot-clause-few : goal.returns-in_err-take_snapshot-clause-few
+returns-in_err-take_snapshot-clause-few g c = λ held stands.
+    let told = c.in_err-take_snapshot.ensures in
+    answer_few (document_of c.args.self.now.replica) held c.args.hydration c.args.diff.now c.args.steps.now c.take_snapshot.new.steps (told.ticks (replica_of held) stands.replica) told.few
+
+pub returns-clause-few : goal.returns-clause-few
+returns-clause-few g c = λ held stands.
+    let told = c.in_ok-take_snapshot.ensures in
+    answer_few (document_of c.args.self.now.replica) held c.args.hydration c.args.diff.now c.args.steps.now c.take_snapshot.new.steps (told.ticks (replica_of held) stands.replica) told.few
 
 pub returns-clause-ok : goal.returns-clause-ok
 returns-clause-ok g c = λ held session stands asks.

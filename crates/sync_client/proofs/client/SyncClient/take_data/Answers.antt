@@ -26,6 +26,12 @@ returns-clause-ticks g c = λ held stands.
     let same = ap operations (diffs-pending held.client.pending) in
     omega arith
 
+pub returns-in_err-take_events-clause-few : goal.returns-in_err-take_events-clause-few
+returns-in_err-take_events-clause-few g c = λ held stands. c.in_err-take_events.ensures.few (replica_of held) stands.replica
+
+pub returns-clause-few : goal.returns-clause-few
+returns-clause-few g c = λ held stands. c.in_ok-take_events.ensures.few (replica_of held) stands.replica
+
 pub returns-clause-ok : goal.returns-clause-ok
 returns-clause-ok g c = λ held stands joined.
     let records = g.D.DocStore.records in
