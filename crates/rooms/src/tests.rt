@@ -436,9 +436,8 @@ pub(crate) fn nth_shape(alloc: Global, n: usize, index: &str, x: u32) -> Result<
     )?)
 }
 
-// A client that counts the shapes of a page puts it with 100 shapes, and moves the first of them so many times; each edit is
-// handled, sent and delivered.
-fn many_moves(alloc: Global, moves: u32) -> Result<String, Fail> {
+// A client that counts the shapes of a page puts it with 100 shapes, which is handled, sent and delivered.
+fn hundred_put(alloc: Global) -> Result<String, Fail> {
     let mut text = lines(alloc, "H; C; COUNT; OPEN")?;
     text.push_str(
         lines(alloc, r#"{"client":0,"diff":{"page:p":["put",PAGE]"#)?
@@ -455,35 +454,112 @@ fn many_moves(alloc: Global, moves: u32) -> Result<String, Fail> {
         )?.as_str())?;
     }
     text.push_str("},\"do\":\"edit\"}\n")?;
+    text.push_str(lines(alloc, "HANDLE; SEND; DELIVER")?.as_str())?;
+    Ok(text)
+}
+
+// The line by which that client moves the n-th shape to this x.
+fn move_to(alloc: Global, n: usize, x: u32) -> Result<String, Fail> {
+    let id = nth_id(alloc, n)?;
+    Ok(format!(in alloc;
+        "{{\"client\":0,\"diff\":{{\"{}\":[\"patch\",{{\"x\":[\"put\",{x}]}}]}},\"do\":\"edit\"}}\n",
+        id.as_str()
+    )?)
+}
+
+// The client moves the first of its shapes so many times; each edit is handled, sent and delivered.
+fn many_moves(alloc: Global, moves: u32) -> Result<String, Fail> {
+    let mut text = hundred_put(alloc)?;
     let sync = lines(alloc, "HANDLE; SEND; DELIVER")?;
-    text.push_str(sync.as_str())?;
     for x in 1..=moves {
-        text.push_str(format!(in alloc;
-            "{{\"client\":0,\"diff\":{{\"shape:s000\":[\"patch\",{{\"x\":[\"put\",{x}]}}]}},\"do\":\"edit\"}}\n"
-        )?.as_str())?;
+        text.push_str(move_to(alloc, 0, x)?.as_str())?;
         text.push_str(sync.as_str())?;
     }
     text.push_str(lines(alloc, "END")?.as_str())?;
     Ok(text)
 }
 
-// What that writes: the counts, and the room at the end, whose clock is one more than the moves. Each shape has the next key.
-fn moved(alloc: Global, moves: u32) -> Result<String, Fail> {
-    let mut text = lines(
+// The client moves each of its shapes so many times, in turn, and shows what it has before the first of these edits is
+// handled, and once all are answered. Before each is handled another client moves the first shape to x 7, which comes to the
+// client with the answer.
+fn many_pending(alloc: Global, rounds: u32) -> Result<String, Fail> {
+    let mut text = hundred_put(alloc)?;
+    text.push_str(lines(alloc, "C; OPEN1")?.as_str())?;
+    let mut answers = lines(alloc, "SHOW")?;
+    let answer = lines(
         alloc,
-        r#"{"client":0,"told":0,"watch":0}; {"client":0,"told":100,"watch":0}"#,
+        r#"{"client":1,"diff":{"shape:s000":["patch",{"x":["put",7]}]},"do":"edit"}; HANDLE1; HANDLE; SEND; DELIVER; SEND1; DELIVER1"#,
     )?;
-    let clock = u64::from(moves) + 1;
-    text.push_str(format!(in alloc; "{{\"clock\":{clock},\"doc\":")?.as_str())?;
-    text.push_str(lines(alloc, r#"{"page:p":PAGE"#)?.as_str().trim_end())?;
+    for x in 1..=rounds {
+        for n in 0..100usize {
+            text.push_str(move_to(alloc, n, x)?.as_str())?;
+            answers.push_str(answer.as_str())?;
+        }
+    }
+    text.push_str(answers.as_str())?;
+    text.push_str(lines(alloc, "SHOW; END")?.as_str())?;
+    Ok(text)
+}
+
+// What its view tells: the counts before and after the put.
+const COUNTS: &str = r#"{"client":0,"told":0,"watch":0}; {"client":0,"told":100,"watch":0}"#;
+
+// The document with the page and its shapes, of which the first and the others have this x. Each shape has the next key.
+fn hundred(alloc: Global, first: u32, others: u32) -> Result<String, Fail> {
+    let mut text = String::from_str(
+        alloc,
+        lines(alloc, r#"{"page:p":PAGE"#)?.as_str().trim_end(),
+    )?;
     for n in 0..100usize {
         let id = nth_id(alloc, n)?;
         let key = nth_key(alloc, n)?;
         let index = format!(in alloc; "\"index\":\"{}\",", key.as_str())?;
-        let shape = nth_shape(alloc, n, index.as_str(), if n == 0 { moves } else { 0 })?;
+        let shape = nth_shape(
+            alloc,
+            n,
+            index.as_str(),
+            if n == 0 { first } else { others },
+        )?;
         text.push_str(format!(in alloc; ",\"{}\":{}", id.as_str(), shape.as_str())?.as_str())?;
     }
-    text.push_str("},\"end\":true,\"presence\":{}}\n")?;
+    text.push('}')?;
+    Ok(text)
+}
+
+// The line of the end of a recording at this clock, whose room has this document.
+fn ended_with(alloc: Global, clock: u64, document: &str) -> Result<String, Fail> {
+    Ok(format!(in alloc;
+        "{{\"clock\":{clock},\"doc\":{document},\"end\":true,\"presence\":{{}}}}\n"
+    )?)
+}
+
+// The line of a client that shows this document at this clock, and owes so many edits.
+fn shown_with(alloc: Global, clock: u64, document: &str, owed: u64) -> Result<String, Fail> {
+    Ok(format!(in alloc;
+        "{{\"clock\":{clock},\"doc\":{document},\"others\":{{}},\"owed\":{owed},\"show\":0}}\n"
+    )?)
+}
+
+// What many moves write: the counts, and the room at the end, whose clock is one more than the moves.
+fn moved(alloc: Global, moves: u32) -> Result<String, Fail> {
+    let mut text = lines(alloc, COUNTS)?;
+    let document = hundred(alloc, moves, 0)?;
+    let clock = u64::from(moves) + 1;
+    text.push_str(ended_with(alloc, clock, document.as_str())?.as_str())?;
+    Ok(text)
+}
+
+// What many pending moves write: the counts, the client with all of them pending and with none, and the room at the end, whose
+// clock is raised by the other client too. That moves the first shape last.
+fn answered(alloc: Global, rounds: u32) -> Result<String, Fail> {
+    let mut text = lines(alloc, COUNTS)?;
+    let before = hundred(alloc, rounds, rounds)?;
+    let after = hundred(alloc, 7, rounds)?;
+    let moves = u64::from(rounds).saturating_mul(100);
+    let clock = moves.saturating_mul(2).saturating_add(1);
+    text.push_str(shown_with(alloc, 1, before.as_str(), moves)?.as_str())?;
+    text.push_str(shown_with(alloc, clock, after.as_str(), 0)?.as_str())?;
+    text.push_str(ended_with(alloc, clock, after.as_str())?.as_str())?;
     Ok(text)
 }
 
@@ -493,6 +569,23 @@ fn replays_twenty_thousand_moves(rt: HostRuntime) -> Result<(), Fail> {
     let alloc = rt.alloc();
     let recording = many_moves(alloc, 20_000)?;
     let written = moved(alloc, 20_000)?;
+    replays(
+        &rt,
+        alloc,
+        "replay",
+        recording.as_str(),
+        65_536,
+        written.as_str(),
+        0,
+    )
+}
+
+// A body that replays all that is pending at each message doesn't end in a test's time.
+#[test]
+fn replays_answers_to_four_thousand_pending_moves(rt: HostRuntime) -> Result<(), Fail> {
+    let alloc = rt.alloc();
+    let recording = many_pending(alloc, 40)?;
+    let written = answered(alloc, 40)?;
     replays(
         &rt,
         alloc,

@@ -244,6 +244,89 @@ take data commit 13 8; patch 14 {"note:a":["patch",{"x":["put",4]}]} | taken | 1
 take data patch 15 {"note:b":["put",{"id":"note:b","typeName":"note","x":8}]}; commit 16 9 | taken | 16 owes 0: note:a=4
 "#;
 
+/// Pending edits that meet what others did: the base has the room's events in order, and what is pending is done over it.
+const MEETS: &str = r#"
+connect 4 | connect 4 -1
+take answer 4 wipe_all 3 {"note:a":["put",{"id":"note:a","typeName":"note","x":1}],"note:b":["put",{"id":"note:b","typeName":"note","x":2}],"note:c":["put",{"id":"note:c","typeName":"note","x":3}]} | taken | 3 owes 0: note:a=1 note:b=2 note:c=3
+# A commit and a patch of another id in one message, under an edit that stays.
+edit {"note:a":["patch",{"x":["put",4]}]} | {"note:a":["patch",{"x":["put",1]}]} | 3 owes 1: note:a=4 note:b=2 note:c=3
+edit {"note:a":["patch",{"x":["put",6]}]} | {"note:a":["patch",{"x":["put",4]}]} | 3 owes 2: note:a=6 note:b=2 note:c=3
+push | push 1 {"note:a":["patch",{"x":["put",4]}]}
+push | push 2 {"note:a":["patch",{"x":["put",6]}]}
+take data commit 4 1; patch 5 {"note:b":["patch",{"x":["put",5]}]} | taken | 5 owes 1: note:a=6 note:b=5 note:c=3
+take data discard 6 2 | taken | 6 owes 0: note:a=4 note:b=5 note:c=3
+# A patch of an id that no edit names beside one that an edit names.
+edit {"note:a":["patch",{"x":["put",7]}]} | {"note:a":["patch",{"x":["put",4]}]} | 6 owes 1: note:a=7 note:b=5 note:c=3
+take data patch 7 {"note:a":["patch",{"x":["put",1]}],"note:c":["patch",{"x":["put",8]}]} | taken | 7 owes 1: note:a=7 note:b=5 note:c=8
+push | push 3 {"note:a":["patch",{"x":["put",7]}]}
+take data discard 8 3 | taken | 8 owes 0: note:a=1 note:b=5 note:c=8
+# Patches of the same field under a pending patch, which comes after them.
+edit {"note:b":["patch",{"x":["put",6]}]} | {"note:b":["patch",{"x":["put",5]}]} | 8 owes 1: note:a=1 note:b=6 note:c=8
+take data patch 9 {"note:b":["patch",{"x":["put",9]}]} | taken | 9 owes 1: note:a=1 note:b=6 note:c=8
+push | push 4 {"note:b":["patch",{"x":["put",6]}]}
+take data patch 10 {"note:b":["patch",{"x":["put",3]}]}; commit 11 4 | taken | 11 owes 0: note:a=1 note:b=6 note:c=8
+# Where others remove its record a pending patch is passed over, and it acts on the next one that it leaves admitted.
+edit {"note:c":["patch",{"x":["put",2]}]} | {"note:c":["patch",{"x":["put",8]}]} | 11 owes 1: note:a=1 note:b=6 note:c=2
+take data patch 12 {"note:c":["remove"]} | taken | 12 owes 1: note:a=1 note:b=6
+take data patch 13 {"note:c":["put",{"id":"note:c","typeName":"note","x":5}]} | taken | 13 owes 1: note:a=1 note:b=6 note:c=2
+take data patch 14 {"note:c":["put",{"id":"note:c","typeName":"notebooks!","x":4}]} | taken | 14 owes 1: note:a=1 note:b=6 note:c=4
+take data patch 15 {"note:c":["put",{"id":"note:c","typeName":"note","x":5}]} | taken | 15 owes 1: note:a=1 note:b=6 note:c=2
+push | push 5 {"note:c":["patch",{"x":["put",2]}]}
+take data discard 16 5 | taken | 16 owes 0: note:a=1 note:b=6 note:c=5
+# A patch under a pending removal.
+edit {"note:a":["remove"]} | {"note:a":["put",{"id":"note:a","typeName":"note","x":1}]} | 16 owes 1: note:b=6 note:c=5
+take data patch 17 {"note:a":["patch",{"x":["put",9]}]} | taken | 17 owes 1: note:b=6 note:c=5
+push | push 6 {"note:a":["remove"]}
+take data discard 18 6 | taken | 18 owes 0: note:a=9 note:b=6 note:c=5
+# A discard and a patch of the same id in one message, in both orders.
+edit {"note:a":["patch",{"x":["put",3]}]} | {"note:a":["patch",{"x":["put",9]}]} | 18 owes 1: note:a=3 note:b=6 note:c=5
+push | push 7 {"note:a":["patch",{"x":["put",3]}]}
+take data discard 19 7; patch 20 {"note:a":["patch",{"x":["put",2]}]} | taken | 20 owes 0: note:a=2 note:b=6 note:c=5
+edit {"note:a":["patch",{"x":["put",3]}]} | {"note:a":["patch",{"x":["put",2]}]} | 20 owes 1: note:a=3 note:b=6 note:c=5
+push | push 8 {"note:a":["patch",{"x":["put",3]}]}
+take data patch 21 {"note:a":["patch",{"x":["put",7]}]}; discard 22 8 | taken | 22 owes 0: note:a=7 note:b=6 note:c=5
+# A rebase that names fewer ids than the edit.
+edit {"note:a":["patch",{"x":["put",1]}],"note:b":["patch",{"x":["put",1]}]} | {"note:a":["patch",{"x":["put",7]}],"note:b":["patch",{"x":["put",6]}]} | 22 owes 1: note:a=1 note:b=1 note:c=5
+push | push 9 {"note:a":["patch",{"x":["put",1]}],"note:b":["patch",{"x":["put",1]}]}
+take data rebase 23 9 {"note:a":["patch",{"x":["put",1]}]} | taken | 23 owes 0: note:a=1 note:b=6 note:c=5
+# A rebase that names two other ids, of which an edit that stays names one.
+edit {"note:a":["patch",{"x":["put",4]}]} | {"note:a":["patch",{"x":["put",1]}]} | 23 owes 1: note:a=4 note:b=6 note:c=5
+edit {"note:c":["patch",{"x":["put",0]}]} | {"note:c":["patch",{"x":["put",5]}]} | 23 owes 2: note:a=4 note:b=6 note:c=0
+push | push 10 {"note:a":["patch",{"x":["put",4]}]}
+push | push 11 {"note:c":["patch",{"x":["put",0]}]}
+take data rebase 24 10 {"note:b":["patch",{"x":["put",2]}],"note:c":["patch",{"x":["put",9]}]} | taken | 24 owes 1: note:a=1 note:b=2 note:c=0
+take data discard 25 11 | taken | 25 owes 0: note:a=1 note:b=2 note:c=9
+# Two results in one message, of which the second leaves its id to an edit that stays.
+edit {"note:a":["patch",{"x":["put",2]}]} | {"note:a":["patch",{"x":["put",1]}]} | 25 owes 1: note:a=2 note:b=2 note:c=9
+edit {"note:b":["patch",{"x":["put",3]}]} | {"note:b":["patch",{"x":["put",2]}]} | 25 owes 2: note:a=2 note:b=3 note:c=9
+edit {"note:b":["patch",{"x":["put",4]}]} | {"note:b":["patch",{"x":["put",3]}]} | 25 owes 3: note:a=2 note:b=4 note:c=9
+push | push 12 {"note:a":["patch",{"x":["put",2]}]}
+push | push 13 {"note:b":["patch",{"x":["put",3]}]}
+push | push 14 {"note:b":["patch",{"x":["put",4]}]}
+take data discard 26 12; commit 27 13 | taken | 27 owes 1: note:a=1 note:b=4 note:c=9
+take data discard 28 14 | taken | 28 owes 0: note:a=1 note:b=3 note:c=9
+# An answer that changes an id under two edits, takes away two others, of which one edit names one, and brings a presence.
+edit {"note:a":["patch",{"x":["put",6]}]} | {"note:a":["patch",{"x":["put",1]}]} | 28 owes 1: note:a=6 note:b=3 note:c=9
+edit {"note:a":["patch",{"x":["put",8]}],"note:c":["patch",{"x":["put",7]}]} | {"note:a":["patch",{"x":["put",6]}],"note:c":["patch",{"x":["put",9]}]} | 28 owes 2: note:a=8 note:b=3 note:c=7
+take data patch 29 {"pointer:d":["put",{"id":"pointer:d","typeName":"pointer","x":1}]} | taken | 29 owes 2: note:a=8 note:b=3 note:c=7 pointer:d=1
+lost | done | 29 owes 2: note:a=8 note:b=3 note:c=7
+connect 5 | connect 5 29
+take answer 5 wipe_presence 32 {"note:a":["patch",{"x":["put",2]}],"note:b":["remove"],"note:c":["remove"],"pointer:e":["put",{"id":"pointer:e","typeName":"pointer","x":4}]} | taken | 32 owes 2: note:a=8 pointer:e=4
+push | push 15 {"note:a":["patch",{"x":["put",6]}]}
+push | push 16 {"note:a":["patch",{"x":["put",8]}],"note:c":["patch",{"x":["put",7]}]}
+take data discard 33 15 | taken | 33 owes 1: note:a=8 pointer:e=4
+take data discard 34 16 | taken | 34 owes 0: note:a=2 pointer:e=4
+# Edits that name ids which the room never had, of which it gets one.
+edit {"note:m":["patch",{"x":["put",5]}],"note:n":["put",{"id":"note:n","typeName":"note","x":3}]} | {"note:n":["remove"]} | 34 owes 1: note:a=2 note:n=3 pointer:e=4
+edit {"note:k":["remove"]} | {} | 34 owes 2: note:a=2 note:n=3 pointer:e=4
+push | push 17 {"note:m":["patch",{"x":["put",5]}],"note:n":["put",{"id":"note:n","typeName":"note","x":3}]}
+push | push 18 {"note:k":["remove"]}
+take data patch 35 {"note:a":["patch",{"x":["put",0]}]} | taken | 35 owes 2: note:a=0 note:n=3 pointer:e=4
+take data patch 36 {"note:m":["put",{"id":"note:m","typeName":"note","x":1}]} | taken | 36 owes 2: note:a=0 note:m=5 note:n=3 pointer:e=4
+take data discard 37 17 | taken | 37 owes 1: note:a=0 note:m=1 pointer:e=4
+take data commit 38 18 | taken | 38 owes 0: note:a=0 note:m=1 pointer:e=4
+"#;
+
 /// What an answer keeps of the base.
 const SNAPSHOTS: &str = r#"
 connect 1 | connect 1 -1
@@ -292,6 +375,7 @@ fn clients_do_what_their_scripts_say(rt: HostRuntime) -> Result<(), Fail> {
     plays(&rt, rt.alloc(), LOSSES)?;
     plays(&rt, rt.alloc(), REBASES)?;
     plays(&rt, rt.alloc(), COMMITS)?;
+    plays(&rt, rt.alloc(), MEETS)?;
     plays(&rt, rt.alloc(), SNAPSHOTS)?;
     plays(&rt, rt.alloc(), PRESENCES)
 }

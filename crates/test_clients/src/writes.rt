@@ -1,12 +1,34 @@
-//! How often a client writes to its store where it takes a patch: at most twice for each pending operation and once for each
-//! of the patch.
+//! How often a client writes to its store where it takes a message over pending patches: once under each id that the message
+//! brings or that an edit names which it ends, and not at all where it commits the first edits alone.
 use crate::calls::call;
 use crate::client::{Client, made};
+use crate::scripts::difference;
 use std::alloc::Global;
 use std::test::Fail;
+use test_with_cases::{cells, rows};
 
 /// How many patches are pending.
 const PENDING: u32 = 400;
+
+/// How many notes a client has, in how many edits it patches them, calls, which ` & ` parts and of which the last takes a
+/// message, and how often they write.
+const WRITES: &str = r#"
+# A patch of one id, which one pending patch names, or each.
+400 | 400 | take data patch 4 {"note:0":["patch",{"x":["put",3]}]} | 1
+1 | 400 | take data patch 4 {"note:0":["patch",{"x":["put",3]}]} | 1
+400 | 1 | take data patch 4 {"note:0":["patch",{"x":["put",3]}]} | 1
+# The same in an answer.
+400 | 400 | lost & connect 5 & take answer 5 wipe_presence 4 {"note:0":["patch",{"x":["put",3]}]} | 1
+# A commit of the first edit, alone and beside a patch of another id.
+400 | 400 | push & take data commit 4 1 | 0
+400 | 400 | push & take data commit 4 1; patch 5 {"note:1":["patch",{"x":["put",3]}]} | 2
+# A discard of the first edit, of one patch and of 400.
+400 | 400 | push & take data discard 4 1 | 1
+400 | 1 | push & take data discard 4 1 | 400
+# A rebase of the first edit by a patch of the same id and of another one.
+400 | 400 | push & take data rebase 4 1 {"note:0":["patch",{"x":["put",3]}]} | 1
+400 | 400 | push & take data rebase 4 1 {"note:1":["patch",{"x":["put",3]}]} | 2
+"#;
 
 /// The part of a diff that puts a note.
 fn put(alloc: Global, number: u32) -> Result<String, Fail> {
@@ -62,61 +84,57 @@ fn edit(
     done(alloc, client, edit.as_str())
 }
 
-/// How often a client writes where it takes one patch.
-fn written(alloc: Global, client: &mut Client) -> Result<u64, Fail> {
+/// Makes a connected client's pending patches in so many edits, of so many notes.
+fn edit_all(alloc: Global, client: &mut Client, edits: u32, notes: u32) -> Result<(), Fail> {
+    let patches = PENDING / edits.max(1);
+    for number in 0..edits {
+        edit(alloc, client, number, patches, notes)?;
+    }
+    Ok(())
+}
+
+/// How often a client writes at calls, of which the last takes a message.
+fn written(alloc: Global, client: &mut Client, calls: &str) -> Result<u64, Fail> {
     let before = client.store().writes();
-    let patch = r#"take data patch 4 {"note:0":["patch",{"x":["put",3]}]}"#;
-    done(alloc, client, patch)?;
+    let mut told = String::new(alloc);
+    for line in calls.split(" & ") {
+        told = call(alloc, client, line)?;
+    }
+    if told.as_str() != "taken" {
+        return Err(Fail::from("not taken"));
+    }
     Ok(client.store().writes().saturating_sub(before))
 }
 
-/// What a client has: how many notes, and in how many edits it patches them.
-#[derive(Clone, Copy)]
-struct Case {
-    notes: u32,
-    edits: u32,
-}
-
-/// How often a client writes where it takes one patch over pending ones.
-fn writes(alloc: Global, case: Case) -> Result<u64, Fail> {
+/// What a new client gives in place of what a row says, if it does.
+fn difference_at(alloc: Global, row: &str) -> Result<Option<String>, Fail> {
+    let [notes, edits, calls, wanted] = cells(row);
+    let notes = notes.parse::<u32>()?;
     let mut client = made(alloc)?;
-    connect(alloc, &mut client, case.notes)?;
-    for number in 0..case.edits {
-        let patches = PENDING / case.edits.max(1);
-        edit(alloc, &mut client, number, patches, case.notes)?;
+    connect(alloc, &mut client, notes)?;
+    edit_all(alloc, &mut client, edits.parse::<u32>()?, notes)?;
+    let writes = written(alloc, &mut client, calls)?;
+    let writes = format!(in alloc; "{writes}")?;
+    if writes.as_str() == wanted {
+        return Ok(None);
     }
-    written(alloc, &mut client)
+    difference(alloc, row, writes.as_str())
 }
 
-/// Cases, and how often is written: each note is written back, one is patched, and the patches are replayed.
-const WRITES: [(Case, u64); 3] = [
-    (
-        Case {
-            notes: 400,
-            edits: 400,
-        },
-        400 + 1 + 400,
-    ),
-    (
-        Case {
-            notes: 1,
-            edits: 400,
-        },
-        1 + 1 + 400,
-    ),
-    (
-        Case {
-            notes: 400,
-            edits: 1,
-        },
-        400 + 1 + 400,
-    ),
-];
+/// The first row that isn't met, with what is given in its place.
+fn difference_in(alloc: Global, table: &str) -> Result<Option<String>, Fail> {
+    for row in &rows(alloc, table)? {
+        if let Some(difference) = difference_at(alloc, row)? {
+            return Ok(Some(difference));
+        }
+    }
+    Ok(None)
+}
 
 #[test]
-fn writes_twice_for_each_pending_patch_at_most(rt: HostRuntime) -> Result<(), Fail> {
-    for (case, wanted) in WRITES.iter() {
-        assert_eq!(rt; writes(rt.alloc(), *case)?, *wanted);
+fn writes_once_under_each_id_that_a_message_may_change(rt: HostRuntime) -> Result<(), Fail> {
+    if let Some(difference) = difference_in(rt.alloc(), WRITES)? {
+        assert_eq!(rt; difference.as_str(), "");
     }
     Ok(())
 }
