@@ -21,21 +21,25 @@ fn main(rt: HostRuntime) -> Result<()> {
     let mut board = Board::new(rt.alloc(), VERSION)?;
     let ann = board.join(VERSION)?;
     let bob = board.join(VERSION)?;
+    draw(&rt, &mut board, ann, bob)
+}
 
+/// What Ann and Bob do, with what both show after each step.
+fn draw(rt: &HostRuntime, board: &mut Board, ann: ClientId, bob: ClientId) -> Result<()> {
     board.edit(ann, DRAW)?;
-    show(&rt, "Ann draws a page by herself", &board, ann, bob)?;
+    show(rt, "Ann draws a page by herself", board, ann, bob)?;
 
     board.connect(ann)?;
     board.connect(bob)?;
     board.settle()?;
-    show(&rt, "both are connected", &board, ann, bob)?;
+    show(rt, "both are connected", board, ann, bob)?;
 
     board.edit(ann, MOVE)?;
     board.edit(bob, RENAME)?;
-    show(&rt, "Ann moves it while Bob renames it", &board, ann, bob)?;
+    show(rt, "Ann moves it while Bob renames it", board, ann, bob)?;
 
     board.settle()?;
-    show(&rt, "both have heard", &board, ann, bob)
+    show(rt, "both have heard", board, ann, bob)
 }
 
 /// Prints what both show.
