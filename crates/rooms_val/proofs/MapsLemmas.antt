@@ -1,10 +1,12 @@
 -- Maps whose keys rise: look-ups after a change, what a change keeps, and two maps with the same look-ups.
-use Rattle.std.proofs.Common.{◌≡◌, ℕ, Bool, true, false, ◌&&◌, not, cond, T, List, [], ◌∷◌, ◌++◌, Option, Some, None, option_map, Ordering, Less, Equal, Greater, is_eq, refl, sym, ap, subst, ◌∙◌, append_assoc}
+use Rattle.std.proofs.Common.{◌≡◌, ℕ, ◌+◌, ◌<◌, nat_eq, length, get_or, drop, Bool, true, false, ◌&&◌, not, cond, T, List, [], ◌∷◌, ◌++◌, Option, Some, None, option_map, Ordering, Less, Equal, Greater, is_eq, refl, sym, ap, subst, ◌∙◌, append_assoc}
 use Rattle.std.specs.Ordering.{is_lt, ordering_reverse}
 use Rattle.std.specs.Cmp.{tied_itself, Equal-is}
+use Rattle.std.specs.Cmp.Lexicographic.{pointwise, texts_ties}
 use Rattle.std.specs.FinMap.{nat_cmp-IsAntisymmetric, slice_cmp-IsAntisymmetric}
 use Rattle.std.specs.FinMap.Entries.{is_sorted, below_all, by_order, where_key, find-put, find-where_key, is_sorted-put, is_sorted-where_key, same_entries}
 use Rattle.std.proofs.lemmas.Cmp.{nat_list_cmp_total}
+use Rattle.rooms_val.proofs.ListLemmas.{one_off}
 use Rattle.rooms_val.specs.Maps.{order, ties, AreRising, value_at, with_key, without_key, set_at, added, IsTaken, keys_of, EachValue, seen}
 
 pub first : (a b : Bool) → T (a && b) → T a
@@ -89,6 +91,12 @@ module _ {V : Type 0} where
   at_below : (k : List ℕ) (es : List (List ℕ × V)) → T (below_all order k es) → value_at es k ≡ None
   at_below k [] h = refl
   at_below k (e ∷ es) h = rw (less (order k e.0) (first (is_lt (order k e.0)) (below_all order k es) h)) (at_below k es (second _ _ h))
+
+  -- the key stands with the pair that is looked at, or with those after it
+  pub at_one : (es : List (List ℕ × V)) (key : List ℕ) (i : ℕ) (e : List ℕ × V) → i < length es → e ≡ get_or es i e → value_at (drop i es) key ≡ cond (pointwise nat_eq e.0 key) (Some e.1) (value_at (drop (i + 1) es) key)
+  at_one es key i e within here =
+      ap (λ left. value_at left key) (one_off es i e within here)
+      ∙ ap (λ b. cond b (Some e.1) (value_at (drop (i + 1) es) key)) (ties_flip key e.0 ∙ sym (texts_ties e.0 key))
 
   -- where the map lacks the key, nothing is taken away
   pub without_absent : (es : List (List ℕ × V)) (key : List ℕ) → value_at es key ≡ None → without_key es key ≡ es

@@ -7,15 +7,34 @@ use crate::memory::Mem;
 use crate::text::Text;
 use std::mem;
 
-/// What stands under a key. `None` exactly if the key is absent. It costs a logarithm of the length.
+// Among how many keys at most one is found sooner by looking at each than by a search.
+const FEW: usize = 16;
+
+/// What stands under a key. `None` exactly if the key is absent. It costs a logarithm of the length; among at most 16
+/// keys each is looked at.
 pub fn get<'a, V>(entries: &'a [(Text, V)], key: &str) -> Option<&'a V>
     requires { AreRising entries.now }
     ensures { option_map (λ v. v.now) result ≡ value_at entries.now key.now }
 {
+    if entries.len() <= FEW {
+        return first_at(entries, key);
+    }
     match place_of(entries, key) {
         Ok(place) => Some(&entries[place].1),
         Err(_) => None,
     }
+}
+
+// What stands first under a key. Texts of different lengths differ at once, and others by words.
+fn first_at<'a, V>(entries: &'a [(Text, V)], key: &str) -> Option<&'a V>
+    ensures { option_map (λ v. v.now) result ≡ value_at entries.now key.now }
+{
+    'entries: for (text, val) in entries {
+        if text.as_str() == key {
+            return Some(val);
+        }
+    }
+    None
 }
 
 /// Sets what stands under a key, and returns what stood there before. Where memory is refused nothing changes. A key

@@ -47,6 +47,71 @@ turn 0 | turned
 show | {"":3,"é":[2]}
 "#;
 
+// Keys around the bounds of words and of what stands in place: some differ in the last byte alone, in a zero byte at the end or in
+// the last byte of a character. They are looked up among 11 keys, and then among 17.
+const KEYS: &str = "
+map | {}
+put abcdefg 7 | -
+put abcdefg\0 0 | -
+put abcdefgh 8 | -
+put abcdefghi 9 | -
+put abcdefghj 10 | -
+put abcdefghijklmnop 16 | -
+put abcdefghijklmnopqrstu 21 | -
+put abcdefghijklmnopqrstuv 22 | -
+put abcdefghijklmnopqrstuvw 23 | -
+put 😀😀 1 | -
+put 😀😁 2 | -
+get abcdefg | 7
+get abcdefg\0 | 0
+get abcdefgh | 8
+get abcdefghi | 9
+get abcdefghj | 10
+get abcdefghijklmnop | 16
+get abcdefghijklmnopqrstu | 21
+get abcdefghijklmnopqrstuv | 22
+get abcdefghijklmnopqrstuvw | 23
+get 😀😀 | 1
+get 😀😁 | 2
+get abcdef | -
+get abcdefg\0\0 | -
+get abcdefghk | -
+get abcdefghijklmno | -
+get abcdefghijklmnopqrstu\0 | -
+get abcdefghijklmnopqrstuvx | -
+get 😀 | -
+get 😀😂 | -
+put k1 31 | -
+put k2 32 | -
+put k3 33 | -
+put k4 34 | -
+put k5 35 | -
+put k6 36 | -
+get abcdefg | 7
+get abcdefg\0 | 0
+get abcdefgh | 8
+get abcdefghi | 9
+get abcdefghj | 10
+get abcdefghijklmnop | 16
+get abcdefghijklmnopqrstu | 21
+get abcdefghijklmnopqrstuv | 22
+get abcdefghijklmnopqrstuvw | 23
+get 😀😀 | 1
+get 😀😁 | 2
+get abcdef | -
+get abcdefg\0\0 | -
+get abcdefghk | -
+get abcdefghijklmno | -
+get abcdefghijklmnopqrstu\0 | -
+get abcdefghijklmnopqrstuvx | -
+get 😀 | -
+get 😀😂 | -
+put abcdefg\0 5 | 0
+take abcdefg | 7
+get abcdefg\0 | 5
+get abcdefg | -
+";
+
 const LIST: &str = r#"
 list | []
 push 3 | pushed
@@ -99,6 +164,7 @@ fn values_are_changed_and_copied(rt: HostRuntime) -> Result<(), Fail> {
     plays(&rt, rt.alloc(), Call::Copy, WEIGHTS)?;
     plays(&rt, rt.alloc(), Call::Keep, TEXTS)?;
     plays(&rt, rt.alloc(), Call::Script, MAP)?;
+    plays(&rt, rt.alloc(), Call::Script, KEYS)?;
     plays(&rt, rt.alloc(), Call::Script, LIST)?;
     plays(&rt, rt.alloc(), Call::Script, MAP_COPIES)?;
     plays(&rt, rt.alloc(), Call::Script, LIST_COPIES)
