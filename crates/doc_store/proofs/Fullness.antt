@@ -1,11 +1,10 @@
 -- Which slots are empty while writes are noted, and that none is once they were gone through.
-use Rattle.std.proofs.Common.{◌≡◌, ℕ, List, [], ◌∷◌, Bool, true, false, cond, is_eq, Option, Some, None, refl, sym, ap, subst, ◌∙◌}
+use Rattle.std.proofs.Common.{◌≡◌, ℕ, List, [], ◌∷◌, true, false, cond, is_eq, Option, Some, None, refl, sym, ap, ◌∙◌}
 use Rattle.rooms_val.specs.Data.{Data}
-use Rattle.rooms_val.specs.Maps.{AreRising, value_at, with_key, without_key, set_at, ties}
+use Rattle.rooms_val.specs.Maps.{value_at, with_key, without_key, set_at, ties}
 use Rattle.rooms_val.proofs.MapsLemmas.{by_tie, order_itself, at-set_at, at-with_key, at-without_key}
 use Rattle.doc_store.specs.Slots.{Slots, AreFull}
 use Rattle.doc_store.specs.Journal.{Note, began, wrote, AreNoted, is_noted, slots_before, forgotten}
-use Rattle.doc_store.proofs.SlotLaws.{set_same, set_back}
 
 pub noted_before : (notes : List Note) (s : Slots) → AreFull (slots_before notes s) → AreNoted notes s
 noted_before [] s full id empty = absurd (full id empty)

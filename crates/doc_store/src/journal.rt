@@ -28,7 +28,7 @@ pub(crate) fn begin(journal: &mut Vec<Entry>) -> Mem<()>
     Ok(())
 }
 
-/// Writes a record, or its absence, and notes what stood there.
+/// Writes a record, or its absence, and notes what stood there. Where memory is refused the slots are as before.
 pub(crate) fn write(
     journal: &mut Vec<Entry>,
     slots: &mut Slots,
@@ -39,6 +39,7 @@ pub(crate) fn write(
     requires { IsUndoable (notes_of journal.old.items) slots.old }
     ensures old { IfOk result (λ r. maybe_data r ≡ value_at (present slots.old) id.now) }
     ensures ok { OnOk result (present slots.new ≡ set_at (present slots.old) id.now (maybe_data record_)) }
+    ensures err { OnErr result (present slots.new ≡ present slots.old) }
     ensures undoable { IsUndoable (notes_of journal.new.items) slots.new }
     ensures begun { begun (notes_of journal.new.items) slots.new ≡ begun (notes_of journal.old.items) slots.old }
     ensures before { slots_before (notes_of journal.new.items) slots.new ≡ slots_before (notes_of journal.old.items) slots.old }
@@ -50,7 +51,7 @@ pub(crate) fn write(
     Ok(held(old))
 }
 
-/// Writes a record, or its absence, where no transaction is open.
+/// Writes a record, or its absence, where no transaction is open. Where memory is refused the slots are as before.
 pub(crate) fn write_plain(
     slots: &mut Slots,
     alloc: Global,
@@ -59,6 +60,7 @@ pub(crate) fn write_plain(
 ) -> Mem<Option<Val>>
     ensures old { IfOk result (λ r. maybe_data r ≡ value_at (present slots.old) id.now) }
     ensures ok { OnOk result (present slots.new ≡ set_at (present slots.old) id.now (maybe_data record_)) }
+    ensures err { OnErr result (present slots.new ≡ present slots.old) }
     ensures full { AreFull slots.old → AreFull slots.new }
 {
     match record_ {

@@ -35,7 +35,7 @@ pub trait DocStore {
         ensures { IfOk result (λ ids. ids.items ≡ map (λ p. p.0) (records self.now)) };
 
     /// Sets the record of an id, or takes it away, and answers the one before. It counts one step. Where memory is
-    /// refused nothing is said of the records; the open transactions stand as before, and an abort brings them back.
+    /// refused the records are as before, and at most one step is counted.
     fn write<L: Ledger>(
         &mut self,
         alloc: Global,
@@ -45,6 +45,7 @@ pub trait DocStore {
     ) -> Mem<Option<Val>>
         ensures old { IfOk result (λ r. maybe_data r ≡ value_at (records self.old) id.now) }
         ensures ok { OnOk result (records self.new ≡ set_at (records self.old) id.now (maybe_data record_)) }
+        ensures err { OnErr result (records self.new ≡ records self.old) }
         ensures ticked { OnOk result (steps.new ≡ steps.old + 1) }
         ensures untold { OnErr result (steps.new ≤ steps.old + 1) }
         ensures begun { begun self.new ≡ begun self.old }
