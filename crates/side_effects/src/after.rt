@@ -86,11 +86,34 @@ pub(crate) fn text_after<D: DocStore>(
 {
     tell_rising(diff);
     match diff.get(id) {
-        Some(op) => {
-            let after = apply_record(alloc, store.get(id), op)?;
+        Some(op) => text_left(alloc, store, id, op, key),
+        None => text_of(alloc, store.get(id), key),
+    }
+}
+
+// The text under a key of the record that an operation leaves under the id, if it leaves one. A record is copied only where the
+// operation patches that key.
+fn text_left<D: DocStore>(
+    alloc: Global,
+    store: &D,
+    id: &str,
+    op: &RecordOp,
+    key: &str,
+) -> Mem<Option<Text>>
+    ensures { IfOk result (λ t. t ≡ option_map (λ d. text_or_empty d key.now)
+        (raw (change_of op.now) (value_at (D.records store.now) id.now))) }
+{
+    match op {
+        RecordOp::Put(val) => text_of(alloc, Some(val), key),
+        RecordOp::Patch(patch) => {
+            let before = store.get(id);
+            if patch.get(key).is_none() {
+                return text_of(alloc, before, key);
+            }
+            let after = apply_record(alloc, before, op)?;
             text_of(alloc, after.as_ref(), key)
         }
-        None => text_of(alloc, store.get(id), key),
+        RecordOp::Remove => Ok(None),
     }
 }
 

@@ -30,7 +30,7 @@ fn is_unplaced<D: DocStore>(store: &D, id: &str, op: &RecordOp) -> bool
     ensures { result ≡ is_unplaced (D.records store.now) id.now (change_of op.now) }
 {
     match op {
-        RecordOp::Put(val) => is_shape(id) && store.get(id).is_none() && lacks_index(val),
+        RecordOp::Put(val) => is_shape(id) && lacks_index(val) && store.get(id).is_none(),
         RecordOp::Patch(_) => false,
         RecordOp::Remove => false,
     }

@@ -1,9 +1,9 @@
 //! The rules that refuse an edit, each asked of all operations in the order of their ids.
-ghost use Rattle.std.specs.Prelude.{◌≡◌, option_map};
+ghost use Rattle.std.specs.Prelude.{◌≡◌, [], option_map};
 ghost use Rattle.std.specs.Option.{option_copied};
 ghost use Rattle.rooms_val.specs.Answers.{Gives};
 ghost use Rattle.rooms_val.specs.View.{data_of};
-ghost use Rattle.field_ops.specs.RecordOps.{remove};
+ghost use Rattle.field_ops.specs.RecordOps.{put, remove};
 ghost use Rattle.field_ops.specs.ViewRecordOps.{change_of};
 ghost use Rattle.schema_core.specs.SchemaOf.{schema_tree};
 ghost use Rattle.side_effects.specs.Completed.{wrong_scope, no_record, invalid, refuses};
@@ -15,7 +15,7 @@ use crate::fault::EditFault;
 use crate::whole::{check_end, check_parent};
 use doc_store::DocStore;
 use field_ops::{Diff, RecordOp, apply_record};
-use rooms_val::Text;
+use rooms_val::{Text, Val};
 use schema_core::Schema;
 use std::alloc::Global;
 
@@ -129,11 +129,23 @@ fn check_result<D: DocStore>(
     ensures { Gives edit_fault.OutOfMemory (λ _. tt) result (refusal
         (invalid (schema_tree schema.now) (D.records store.now) id.now (change_of op.now))) }
 {
-    match apply_record(alloc, store.get(id.as_str()), op)? {
-        Some(left) => match schema.admits(id.as_str(), &left) {
-            Ok(_) => Ok(()),
-            Err(fault) => Err(EditFault::Invalid(id.copy(alloc)?, fault)),
+    match op {
+        RecordOp::Put(left) => check_admitted(alloc, schema, id, left),
+        RecordOp::Patch(_) => match apply_record(alloc, store.get(id.as_str()), op)? {
+            Some(left) => check_admitted(alloc, schema, id, &left),
+            None => Ok(()),
         },
-        None => Ok(()),
+        RecordOp::Remove => Ok(()),
+    }
+}
+
+// Refuses a record that isn't admitted.
+fn check_admitted(alloc: Global, schema: &Schema, id: &Text, left: &Val) -> Result<(), EditFault>
+    ensures { Gives edit_fault.OutOfMemory (λ _. tt) result (refusal
+        (invalid (schema_tree schema.now) [] id.now (put (data_of left.now)))) }
+{
+    match schema.admits(id.as_str(), left) {
+        Ok(_) => Ok(()),
+        Err(fault) => Err(EditFault::Invalid(id.copy(alloc)?, fault)),
     }
 }
