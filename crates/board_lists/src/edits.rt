@@ -11,7 +11,7 @@ use tl_rules::{Ids, Part};
 // How many ids stand together before they are parted.
 const MOST_TOGETHER: usize = 128;
 
-/// The ids with one more at a place.
+/// The ids with one more at a place, with a hint beside it (`Ids::guess`).
 ///
 /// The place is at most the number of ids. It costs a copy of the part that the id joins, of at most 128 ids, and a look at
 /// each other part; these are shared.
@@ -19,14 +19,16 @@ const MOST_TOGETHER: usize = 128;
 /// # Errors
 ///
 /// Memory was refused.
-pub fn with_id(alloc: Global, ids: &Ids, place: usize, id: &str) -> Mem<Ids>
+pub fn with_id(alloc: Global, ids: &Ids, place: usize, id: &str, hint: &str) -> Mem<Ids>
     requires { place ≤ length ids.now }
     ensures { IfOk result (λ copy. copy ≡ insert ids.now place id.now) }
 {
     let all = ids.parts();
     let (at, offset) = part_at(all, place, 0);
     let items = with_one(alloc, ids_of(all, at), offset, id)?;
-    let more = with_part(alloc, all, at, items)?;
+    let others = hints_of(all, at);
+    let hints = with_one(alloc, others, offset.min(others.len()), hint)?;
+    let more = with_part(alloc, all, at, items, hints)?;
     Ok(more)
 }
 
@@ -45,11 +47,12 @@ pub fn without_id(alloc: Global, ids: &Ids, place: usize) -> Mem<Ids>
     let all = ids.parts();
     let (at, offset) = part_at(all, place, 1);
     let items = without_one(alloc, ids_of(all, at), offset)?;
-    let less = with_part(alloc, all, at, items)?;
+    let hints = without_hint(alloc, hints_of(all, at), offset)?;
+    let less = with_part(alloc, all, at, items, hints)?;
     Ok(less)
 }
 
-// Copies of the ids of a part, with one more at a place.
+// Copies of the ids or hints of a part, with one more at a place.
 fn with_one(alloc: Global, part: &[Text], place: usize, id: &str) -> Mem<Vec<Text>>
     requires { place ≤ length part.now }
     ensures { IfOk result (λ items. items.items ≡ insert part.now place id.now) }
@@ -71,6 +74,15 @@ fn without_one(alloc: Global, part: &[Text], place: usize) -> Mem<Vec<Text>>
     add_copies(alloc, &mut items, &part[..place])?;
     add_copies(alloc, &mut items, &part[place + 1..])?;
     Ok(items)
+}
+
+// Copies of the hints of a part, without the one at a place; none where there is none there.
+fn without_hint(alloc: Global, hints: &[Text], place: usize) -> Mem<Vec<Text>> {
+    if place < hints.len() {
+        without_one(alloc, hints, place)
+    } else {
+        Ok(Vec::new(alloc))
+    }
 }
 
 // The part in which a place is, and where in it; a part with so many ids from there on.
@@ -100,8 +112,22 @@ fn ids_of(parts: &[Part], at: usize) -> &[Text]
     }
 }
 
+// The hints of a part, none where there is no such part.
+fn hints_of(parts: &[Part], at: usize) -> &[Text] {
+    match parts.get(at) {
+        Some(part) => part.hints(),
+        None => &[],
+    }
+}
+
 // The ids of some parts, where the ids of one are replaced by others, or these are added. Where they are many they are parted.
-fn with_part(alloc: Global, parts: &[Part], at: usize, items: Vec<Text>) -> Mem<Ids>
+fn with_part(
+    alloc: Global,
+    parts: &[Part],
+    at: usize,
+    items: Vec<Text>,
+    hints: Vec<Text>,
+) -> Mem<Ids>
     requires { at ≤ length parts.now }
     ensures { IfOk result (λ ids. ids
         ≡ flat (take at parts.now) ++ items.items ++ flat (drop (at + 1) parts.now)) }
@@ -109,7 +135,7 @@ fn with_part(alloc: Global, parts: &[Part], at: usize, items: Vec<Text>) -> Mem<
     let (before, after) = parts.split_at(at);
     let mut all = Vec::with_capacity(alloc, parts.len() + 1)?;
     add_parts(&mut all, before)?;
-    add_items(alloc, &mut all, items)?;
+    add_items(alloc, &mut all, items, hints)?;
     add_parts(&mut all, others_of(after))?;
     let ids = Ids::of_parts(alloc, all)?;
     Ok(ids)
@@ -125,28 +151,31 @@ fn others_of(parts: &[Part]) -> &[Part]
     }
 }
 
-// Adds some ids, in two parts where they are many, and in none where there are none.
-fn add_items(alloc: Global, parts: &mut Vec<Part>, items: Vec<Text>) -> Mem<()>
+// Adds some ids with their hints, in two parts where they are many, and in none where there are none.
+fn add_items(alloc: Global, parts: &mut Vec<Part>, items: Vec<Text>, hints: Vec<Text>) -> Mem<()>
     ensures { OnOk result (flat parts.new.items ≡ flat parts.old.items ++ items.items) }
 {
     if items.is_empty() {
         return Ok(());
     }
     if items.len() > MOST_TOGETHER {
-        return add_halves(alloc, parts, items);
+        return add_halves(alloc, parts, items, hints);
     }
-    parts.push(Part::of(alloc, items)?)?;
+    parts.push(Part::hinted(alloc, items, hints)?)?;
     Ok(())
 }
 
-// Adds some ids in two parts.
-fn add_halves(alloc: Global, parts: &mut Vec<Part>, items: Vec<Text>) -> Mem<()>
+// Adds some ids with their hints in two parts.
+fn add_halves(alloc: Global, parts: &mut Vec<Part>, items: Vec<Text>, hints: Vec<Text>) -> Mem<()>
     ensures { OnOk result (flat parts.new.items ≡ flat parts.old.items ++ items.items) }
 {
     let mut front = items;
-    let back = front.split_off(front.len() / 2)?;
-    parts.push(Part::of(alloc, front)?)?;
-    parts.push(Part::of(alloc, back)?)?;
+    let middle = front.len() / 2;
+    let back = front.split_off(middle)?;
+    let mut front_hints = hints;
+    let back_hints = front_hints.split_off(middle.min(front_hints.len()))?;
+    parts.push(Part::hinted(alloc, front, front_hints)?)?;
+    parts.push(Part::hinted(alloc, back, back_hints)?)?;
     Ok(())
 }
 

@@ -1,5 +1,5 @@
 //! A list of ids in parts, which its copies share.
-ghost use Rattle.std.specs.Prelude.{◌≡◌, ◌↔◌, [], length, IsTrue, IfOk, option_map, slice_get};
+ghost use Rattle.std.specs.Prelude.{◌≡◌, ◌≤◌, ◌↔◌, [], length, IsTrue, IfOk, option_map, slice_get};
 ghost use Rattle.std.specs.Bool.{Decides};
 ghost use Rattle.tl_rules.specs.Ids.{flat, ids_eq, ids_equiv, ids_per};
 
@@ -8,10 +8,20 @@ use std::alloc::Global;
 use std::marker::Model;
 use std::sync::Arc;
 
+// What a part has.
+#[derive(Drop)]
+struct Together {
+    ids: Vec<Text>,
+    // By what each id was put at its place. They only help to find places: nothing is said of them, nor of how many there are.
+    hints: Vec<Text>,
+}
+
 /// Ids that stand together in a list. Copies share them. Contracts see the ids.
+///
+/// Beside the ids stand hints, texts by which places are guessed (`Ids::guess`).
 #[derive(Drop)]
 pub struct Part {
-    items: Arc<Vec<Text>>,
+    items: Arc<Together>,
 }
 
 impl Model for Part {
@@ -19,20 +29,31 @@ impl Model for Part {
 
     ghost Value = { List (List ℕ) };
 
-    ghost view = { λ part. part.items.value.items };
+    ghost view = { λ part. part.items.value.ids.items };
 }
 
 impl Part {
-    /// These ids, which copies will share.
+    /// These ids without hints, which copies will share.
     ///
     /// # Errors
     ///
     /// Memory was refused.
-    pub fn of(alloc: Global, items: Vec<Text>) -> Mem<Part>
-        ensures { IfOk result (λ part. part ≡ items.items) }
+    pub fn of(alloc: Global, ids: Vec<Text>) -> Mem<Part>
+        ensures { IfOk result (λ part. part ≡ ids.items) }
+    {
+        Part::hinted(alloc, ids, Vec::new(alloc))
+    }
+
+    /// These ids with their hints, which copies will share.
+    ///
+    /// # Errors
+    ///
+    /// Memory was refused.
+    pub fn hinted(alloc: Global, ids: Vec<Text>, hints: Vec<Text>) -> Mem<Part>
+        ensures { IfOk result (λ part. part ≡ ids.items) }
     {
         Ok(Part {
-            items: Arc::new(alloc, items)?,
+            items: Arc::new(alloc, Together { ids, hints })?,
         })
     }
 
@@ -40,7 +61,12 @@ impl Part {
     pub fn as_slice(&self) -> &[Text]
         ensures { result.now ≡ self.now }
     {
-        &self.items
+        &self.items.ids
+    }
+
+    /// The hints beside the ids, in order.
+    pub fn hints(&self) -> &[Text] {
+        &self.items.hints
     }
 
     /// An equal part, at the cost of counting one more owner. It takes no memory.
@@ -54,6 +80,34 @@ impl Part {
         Ok(Part {
             items: Arc::try_clone(&self.items)?,
         })
+    }
+
+    // Whether the last id and its hint come before others.
+    fn ends_before(&self, hint: &str, id: &str) -> bool {
+        match self.hints().last() {
+            Some(last_hint) => match self.as_slice().last() {
+                Some(last) => (last_hint.as_str(), last.as_str()) < (hint, id),
+                None => false,
+            },
+            None => false,
+        }
+    }
+
+    // How many ids come before an id with a hint, by their hints, if these are in order. It costs a logarithm of their number.
+    fn guess(&self, hint: &str, id: &str) -> usize {
+        let ids = self.as_slice();
+        let hints = self.hints();
+        let mut low = 0;
+        let mut high = hints.len().min(ids.len());
+        'halves: while low < high {
+            let middle = low + (high - low) / 2;
+            if (hints[middle].as_str(), ids[middle].as_str()) < (hint, id) {
+                low = middle + 1;
+                continue;
+            }
+            high = middle;
+        }
+        low
     }
 }
 
@@ -161,6 +215,23 @@ impl Ids {
         ensures { option_map (λ id. id.now) result ≡ slice_get self.now place }
     {
         id_at(self.parts(), place)
+    }
+
+    /// Where an id with a hint may stand, or go to, by the hints of the others. Only that it is within the list is known: who wants
+    /// the place looks whether it is right. It costs a comparison for each halving, and a look at each part before.
+    pub fn guess(&self, hint: &str, id: &str) -> usize
+        ensures { result ≤ length self.now }
+    {
+        let parts = self.parts();
+        let at = parts.partition_point(|part| part.ends_before(hint, id));
+        let mut place = 0_usize;
+        for part in parts.iter().take(at) {
+            place = place.saturating_add(part.as_slice().len());
+        }
+        if let Some(part) = parts.get(at) {
+            place = place.saturating_add(part.guess(hint, id));
+        }
+        place.min(self.len)
     }
 
     /// An equal list, at the cost of counting one more owner. It takes no memory.

@@ -1,7 +1,7 @@
 use Rattle.std.proofs.Common.{◌∙◌, ◌+◌, ap, length, arith}
 use Rattle.std.specs.Prelude.{take}
 use Rattle.tl_rules.specs.Ids.{flat}
-use Rattle.board_lists.proofs.PartsLemmas.{found_in, found_after, found_end}
+use Rattle.board_lists.proofs.PartsLemmas.{found_after}
 use Rattle.board_lists.proofs.edits.part_at.Goals as goal
 
 pub parts-preserved : goal.parts-preserved

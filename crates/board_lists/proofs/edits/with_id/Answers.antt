@@ -1,6 +1,6 @@
-use Rattle.std.proofs.Common.{◌+◌, ◌++◌, ◌∙◌, ◌≤◌, insert, length, take, drop, ap, sym, subst, arith}
+use Rattle.std.proofs.Common.{◌+◌, ◌++◌, ◌∙◌, insert, length, take, drop, ap, arith}
 use Rattle.tl_rules.specs.Ids.{flat}
-use Rattle.board_lists.proofs.PartsLemmas.{part_of, put_in}
+use Rattle.board_lists.proofs.PartsLemmas.{put_in}
 use Rattle.board_lists.proofs.edits.with_id.Goals as goal
 
 pub with_one-requires : goal.with_one-requires
