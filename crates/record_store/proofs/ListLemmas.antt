@@ -5,7 +5,7 @@ use Rattle.std.specs.List.Sorted.{IsPartitionedBy}
 use Rattle.rooms_val.specs.Data.{Data, Pairs}
 use Rattle.rooms_val.specs.Maps.{AreRising, value_at, with_key, without_key}
 use Rattle.rooms_val.proofs.MapsLemmas.{rising-without_key}
-use Rattle.tl_rules.specs.Answers.{ids_in}
+use Rattle.tl_rules.specs.Answers.{ids_in, record_in}
 use Rattle.tl_rules.specs.declared.key.TlKey.{TlKey}
 use Rattle.tl_rules.specs.declared.key.TlKey.TheVariants as key
 use Rattle.tl_rules.specs.declared.value.TlValue.TheVariants as value
@@ -14,7 +14,7 @@ use Rattle.board_lists.specs.declared.listing.Listing.TheVariants.{Children, Bou
 use Rattle.board_lists.specs.Laws.{IsPlaceAmong}
 use Rattle.board_lists.specs.Listings.{owner_of, index_of, place_of, listed, key_of, is_before}
 use Rattle.board_lists.proofs.ListingLemmas.{parted, known, known_without, put_in, coming, going, taken_out, stays}
-use Rattle.record_store.specs.Lists.{Board, atoms_of, records_of, place_at, AreLists, IsListOf, IsMoved, ChangesOnly}
+use Rattle.record_store.specs.Lists.{Board, atoms_of, records_of, place_at, HasRecords, AreLists, IsListOf, IsMoved, ChangesOnly}
 use Rattle.record_store.specs.Seen.{Keys, AreKeys}
 use Rattle.record_store.proofs.RecordLemmas.{by_same, same_records}
 
@@ -51,6 +51,10 @@ kinds BoundTo BoundFrom a b e = cc
 pub ids_are : (l : Listing) (board : Board) (m : Pairs) (owner : List ℕ) (k : TlKey) (ids : List (List ℕ)) → AreLists l board m → k ≡ key_of l owner
     → ids ≡ ids_in (atoms_of board k) → ids ≡ listed l m owner
 ids_are l board m owner k ids lists is e = e ∙ ap (λ x. ids_in (atoms_of board x)) is ∙ ap ids_in (lists owner)
+
+-- the atoms of records have a map's records still, where they stay
+pub has_still : (IsChanged : TlKey → Type 0) (old new : Board) (m n : Pairs) → ((q : List ℕ) → IsChanged (key.Rec q) → ⊥) → ChangesOnly IsChanged old new → n ≡ m → HasRecords old m → HasRecords new n
+has_still IsChanged old new m n apart change same has q = ap record_in (change.others (key.Rec q) (apart q)) ∙ has q ∙ ap (λ ps. value_at ps q) (sym same)
 
 -- records stay where lists change
 pub records_apart : (l : Listing) (id q : List ℕ) (o : Option Data) → IsListOf l id o (key.Rec q) → ⊥
@@ -140,6 +144,12 @@ same_after keys are old new P apart change = same_records keys are (atoms_of new
 pub same_moved : (keys : Keys) → AreKeys keys → (old new : Board) (l : Listing) (id : List ℕ) (before after : Option Data) → ChangesOnly (IsMoved l id before after) old new
     → records_of keys new ≡ records_of keys old
 same_moved keys are old new l id before after change = same_after keys are old new (IsMoved l id before after) (λ q h. records_unmoved l id q before after h) change
+
+-- and so the atoms of records have the board's records still
+pub has_moved : (keys : Keys) → AreKeys keys → (old new : Board) (l : Listing) (id : List ℕ) (before after : Option Data) → ChangesOnly (IsMoved l id before after) old new
+    → HasRecords old (records_of keys old) → HasRecords new (records_of keys new)
+has_moved keys are old new l id before after change =
+    has_still (IsMoved l id before after) old new (records_of keys old) (records_of keys new) (λ q h. records_unmoved l id q before after h) change (same_moved keys are old new l id before after change)
 
 pub each_kind : (P : Listing → Type 0) → P Children → P BoundFrom → P BoundTo → (l : Listing) → P l
 each_kind P c f t Children = c

@@ -1,6 +1,9 @@
 -- The lists of a board as atoms, and what a change of records leaves.
-use Rattle.std.specs.Prelude.{◌≡◌, ◌≢◌, ◌⊎◌, ℕ, ◌<◌, ◌≤◌, List, [], ◌∷◌, length, Option, None, Some, Contains}
+use Rattle.std.specs.Prelude.{◌≡◌, ◌≢◌, ◌⊎◌, ℕ, ◌<◌, ◌≤◌, List, [], ◌∷◌, length, Bool, true, false, Option, None, Some, slice_get, Contains}
+use Rattle.std.specs.List.{AllWithin}
+use Rattle.std.specs.List.Sorted.{IsPartitionedBy}
 use Rattle.rooms_val.specs.Data.{Data, Pairs}
+use Rattle.rooms_val.specs.Maps.{value_at}
 use Rattle.shape_tree.specs.Trees.{Sibling}
 use Rattle.signal_rules.specs.Values.{Meets}
 use Rattle.signal_txn.specs.declared.write.Write.{Write}
@@ -9,6 +12,7 @@ use Rattle.signal_txn.specs.Seen as txn
 use Rattle.signal_txn.specs.Since.{diffs_after}
 use Rattle.signal_values.specs.Kept.{IsFreshKey}
 use Rattle.signal_values.specs.Seen.{top}
+use Rattle.tl_rules.specs.Answers.{record_in}
 use Rattle.tl_rules.specs.Exact.{key_cmp}
 use Rattle.tl_rules.specs.Meaning.{tl_meaning}
 use Rattle.tl_rules.specs.declared.key.TlKey.{TlKey}
@@ -17,7 +21,7 @@ use Rattle.tl_rules.specs.declared.rules.TlRules.{TlRules}
 use Rattle.tl_rules.specs.declared.value.TlValue.{TlValue}
 use Rattle.tl_rules.specs.declared.value.TlValue.TheVariants as value
 use Rattle.board_lists.specs.declared.listing.Listing.{Listing}
-use Rattle.board_lists.specs.Listings.{owner_of, index_of, listed, key_of}
+use Rattle.board_lists.specs.Listings.{owner_of, index_of, listed, is_before, key_of}
 use Rattle.record_store.specs.Seen.{Keys, records_under}
 use Rattle.record_store.specs.Turns.{AreInTurn, written_under, written_all}
 
@@ -36,6 +40,10 @@ begun_of board = txn.begun tl_meaning key_cmp board
 abbrev pub records_of : Keys → Board → Pairs
 records_of keys board = records_under keys (atoms_of board)
 
+-- the atoms of records have the records of a map
+abbrev pub HasRecords : Board → Pairs → Type 0
+HasRecords board m = (id : List ℕ) → record_in (atoms_of board (key.Rec id)) ≡ value_at m id
+
 -- the atoms of one kind of lists are the lists of a map
 abbrev pub AreLists : Listing → Board → Pairs → Type 0
 AreLists l board m = (owner : List ℕ) → atoms_of board (key_of l owner) ≡ value.Ids (listed l m owner)
@@ -43,6 +51,18 @@ AreLists l board m = (owner : List ℕ) → atoms_of board (key_of l owner) ≡ 
 -- a place in a list
 abbrev pub place_at : List ℕ → List ℕ → Sibling
 place_at index id = record { index = index; id = id }
+
+-- the id at a place of a list stands before another, or doesn't, in each map that has a board's records
+abbrev pub IsBeforeAt : Listing → Board → Sibling → List (List ℕ) → ℕ → Bool → Type 0
+IsBeforeAt l board place ids at before = (x : List ℕ) × (Some x ≡ slice_get ids at) × ((m : Pairs) → HasRecords board m → before ≡ is_before l m place x)
+
+-- in each such map that parts a list at a place, so many ids stand before it
+abbrev pub AreBefore : Listing → Board → Sibling → List (List ℕ) → ℕ → Type 0
+AreBefore l board place ids low = (m : Pairs) → HasRecords board m → IsPartitionedBy (is_before l m place) ids → AllWithin (λ x. is_before l m place x ≡ true) ids 0 low
+
+-- and none from another on
+abbrev pub AreBehind : Listing → Board → Sibling → List (List ℕ) → ℕ → Type 0
+AreBehind l board place ids high = (m : Pairs) → HasRecords board m → IsPartitionedBy (is_before l m place) ids → AllWithin (λ x. is_before l m place x ≡ false) ids high (length ids)
 
 -- the key is that of the list in which a record stands
 abbrev pub IsListOf : Listing → List ℕ → Option Data → TlKey → Type 0

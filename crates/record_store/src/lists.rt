@@ -1,7 +1,7 @@
 //! The lists of a board, as records change.
-ghost use Rattle.std.specs.Prelude.{◌≡◌, ◌≤◌, ◌↔◌, ℕ, List, length, Some, IsTrue, IfOk, OnOk};
+ghost use Rattle.std.specs.Prelude.{◌≡◌, ◌≤◌, ◌<◌, ◌↔◌, ℕ, List, length, Some, IsTrue, IfOk, OnOk};
 ghost use Rattle.std.specs.List.Sorted.{IsPartitionedBy};
-ghost use Rattle.rooms_val.specs.Data.{IsSoundRecord};
+ghost use Rattle.rooms_val.specs.Data.{IsSoundRecord, Pairs};
 ghost use Rattle.rooms_val.specs.Maps.{value_at, set_at, without_key, with_key};
 ghost use Rattle.rooms_val.specs.View.{data_of};
 ghost use Rattle.shape_tree.specs.View.{maybe_data};
@@ -15,7 +15,7 @@ ghost use Rattle.board_lists.specs.Laws.{IsPlaceAmong};
 ghost use Rattle.board_lists.specs.Listings.{is_before};
 ghost use Rattle.record_store.specs.Kept.{IsBoard};
 ghost use Rattle.record_store.specs.Seen.{AreKeys};
-ghost use Rattle.record_store.specs.Lists.{atoms_of, records_of, place_at, AreLists, IsListOf, StandAlike, IsMoved, IsRelisted, IsWritten, IsTold, AreTold, ChangesOnly};
+ghost use Rattle.record_store.specs.Lists.{atoms_of, records_of, place_at, AreLists, HasRecords, IsBeforeAt, AreBefore, AreBehind, IsListOf, StandAlike, IsMoved, IsRelisted, IsWritten, IsTold, AreTold, ChangesOnly};
 
 use crate::keys::Keys;
 use board_lists::{Listing, with_id, without_id};
@@ -40,6 +40,17 @@ pub(crate) fn record_at<'a>(graph: &'a Txn<TlRules>, keys: &Keys, id: &str) -> O
     record_of(graph, keys.get(id)?)
 }
 
+// The record under an id, if there is one. It costs one look-up.
+fn record_under<'a>(alloc: Global, graph: &'a Txn<TlRules>, id: &Text) -> Mem<Option<&'a Val>>
+    ensures { IfOk result (λ r. maybe_data r
+        ≡ record_in (atoms_of graph.now (key_of.Rec id.now))) }
+{
+    let key = TlKey::Rec(id.copy(alloc)?);
+    let found = record_of(graph, &key);
+    drop(key);
+    Ok(found)
+}
+
 // The ids that an atom lists.
 fn ids_at(graph: &Txn<TlRules>, key: &TlKey) -> Mem<Ids>
     requires { rank_of key.now ≡ 0 }
@@ -51,36 +62,103 @@ fn ids_at(graph: &Txn<TlRules>, key: &TlKey) -> Mem<Ids>
     }
 }
 
-// Where a record of an index and an id stands among ids, or would stand. It costs a look-up for each halving.
-fn place_among(
+// Whether the id at a place stands before a record of an index and an id. It costs one look-up.
+fn is_before_at(
+    alloc: Global,
     graph: &Txn<TlRules>,
-    keys: &Keys,
+    listing: Listing,
+    ids: &Ids,
+    at: usize,
+    index: &str,
+    id: &str,
+) -> Mem<bool>
+    requires { at < length ids.now }
+    ensures { IfOk result
+        (IsBeforeAt listing graph.now (place_at index.now id.now) ids.now at) }
+{
+    let Some(other) = ids.get(at) else {
+        unreachable!();
+    };
+    let there = record_under(alloc, graph, other)?;
+    Ok(listing.is_before(there, other.as_str(), index, id))
+}
+
+// A guess of a place, if the id before it stands before the record, and else the start.
+fn least_place(
+    alloc: Global,
+    graph: &Txn<TlRules>,
+    listing: Listing,
+    ids: &Ids,
+    guess: usize,
+    index: &str,
+    id: &str,
+) -> Mem<usize>
+    requires { guess ≤ length ids.now }
+    ensures order { IfOk result (λ low. low ≤ guess) }
+    ensures before { IfOk result
+        (AreBefore listing graph.now (place_at index.now id.now) ids.now) }
+{
+    if guess == 0 {
+        return Ok(0);
+    }
+    if is_before_at(alloc, graph, listing, ids, guess - 1, index, id)? {
+        return Ok(guess);
+    }
+    Ok(0)
+}
+
+// A guess of a place, if the id there doesn't stand before the record, and else the end.
+fn most_place(
+    alloc: Global,
+    graph: &Txn<TlRules>,
+    listing: Listing,
+    ids: &Ids,
+    guess: usize,
+    index: &str,
+    id: &str,
+) -> Mem<usize>
+    requires { guess ≤ length ids.now }
+    ensures order { IfOk result (λ high. guess ≤ high) }
+    ensures within { IfOk result (λ high. high ≤ length ids.now) }
+    ensures behind { IfOk result
+        (AreBehind listing graph.now (place_at index.now id.now) ids.now) }
+{
+    if guess == ids.len() {
+        return Ok(guess);
+    }
+    if is_before_at(alloc, graph, listing, ids, guess, index, id)? {
+        return Ok(ids.len());
+    }
+    Ok(guess)
+}
+
+// Where a record of an index and an id stands among ids, or would stand. It costs two look-ups where the guess is right, and one more
+// for each halving where it isn't.
+fn place_among(
+    alloc: Global,
+    graph: &Txn<TlRules>,
     listing: Listing,
     ids: &Ids,
     index: &str,
     id: &str,
-) -> usize
-    ensures bound { result ≤ length ids.now }
-    ensures place { IsPartitionedBy
-        (is_before listing (records_of keys.now graph.now) (place_at index.now id.now)) ids.now
-        → IsPlaceAmong listing (records_of keys.now graph.now) (place_at index.now id.now)
-        ids.now result }
+) -> Mem<usize>
+    ensures bound { IfOk result (λ place. place ≤ length ids.now) }
+    ensures place { IfOk result (λ place. (m : Pairs) → HasRecords graph.now m
+        → IsPartitionedBy (is_before listing m (place_at index.now id.now)) ids.now
+        → IsPlaceAmong listing m (place_at index.now id.now) ids.now place) }
 {
-    let mut low = 0;
-    let mut high = ids.len();
+    let guess = ids.guess(index, id);
+    let mut low = least_place(alloc, graph, listing, ids, guess, index, id)?;
+    let mut high = most_place(alloc, graph, listing, ids, guess, index, id)?;
     'halves: while low < high {
         let middle = low + (high - low) / 2;
-        let Some(other) = ids.get(middle) else {
-            unreachable!();
-        };
-        let there = record_at(graph, keys, other.as_str());
-        if listing.is_before(there, other.as_str(), index, id) {
+        if is_before_at(alloc, graph, listing, ids, middle, index, id)? {
             low = middle + 1;
             continue;
         }
         high = middle;
     }
-    low
+    Ok(low)
 }
 
 // Takes an id out of the list in which its record stands, which is this. It costs a copy of a part of the list.
@@ -92,6 +170,7 @@ fn unlist(
     id: &str,
     record_: &Val,
 ) -> Mem<()>
+    requires records { HasRecords graph.old (records_of keys.now graph.old) }
     requires lists { AreLists listing graph.old (records_of keys.now graph.old) }
     requires there { value_at (records_of keys.now graph.old) id.now ≡ Some (data_of record_.now) }
     ensures lists { OnOk result
@@ -104,7 +183,7 @@ fn unlist(
     };
     let key = listing.key(alloc, owner)?;
     let ids = ids_at(graph, &key)?;
-    let place = place_among(graph, keys, listing, &ids, listing.index(record_), id);
+    let place = place_among(alloc, graph, listing, &ids, listing.index(record_), id)?;
     let rest = without_id(alloc, &ids, place)?;
     set_atom(alloc, graph, key, TlValue::Ids(rest))
 }
@@ -118,6 +197,7 @@ fn enlist(
     id: &str,
     record_: &Val,
 ) -> Mem<()>
+    requires records { HasRecords graph.old (records_of keys.now graph.old) }
     requires lists { AreLists listing graph.old
         (without_key (records_of keys.now graph.old) id.now) }
     ensures lists { OnOk result (AreLists listing graph.new
@@ -130,8 +210,8 @@ fn enlist(
     };
     let key = listing.key(alloc, owner)?;
     let ids = ids_at(graph, &key)?;
-    let place = place_among(graph, keys, listing, &ids, listing.index(record_), id);
-    let more = with_id(alloc, &ids, place, id)?;
+    let place = place_among(alloc, graph, listing, &ids, listing.index(record_), id)?;
+    let more = with_id(alloc, &ids, place, id, listing.index(record_))?;
     set_atom(alloc, graph, key, TlValue::Ids(more))
 }
 
@@ -166,6 +246,7 @@ fn move_id(
     after: &Val,
 ) -> Mem<()>
     requires keys { AreKeys keys.now }
+    requires records { HasRecords graph.old (records_of keys.now graph.old) }
     requires lists { AreLists listing graph.old (records_of keys.now graph.old) }
     requires there { value_at (records_of keys.now graph.old) id.now ≡ Some (data_of before.now) }
     ensures lists { OnOk result (AreLists listing graph.new
@@ -193,6 +274,7 @@ fn relist(
     after: &Option<Val>,
 ) -> Mem<()>
     requires keys { AreKeys keys.now }
+    requires records { HasRecords graph.old (records_of keys.now graph.old) }
     requires lists { AreLists listing graph.old (records_of keys.now graph.old) }
     requires there { value_at (records_of keys.now graph.old) id.now ≡ owned_data before.now }
     ensures lists { OnOk result (AreLists listing graph.new
@@ -227,6 +309,7 @@ fn relist_all(
     after: &Option<Val>,
 ) -> Mem<()>
     requires keys { AreKeys keys.now }
+    requires records { HasRecords graph.old (records_of keys.now graph.old) }
     requires lists { (l : Kind) → AreLists l graph.old (records_of keys.now graph.old) }
     requires there { value_at (records_of keys.now graph.old) id.now ≡ owned_data before.now }
     ensures lists { OnOk result ((l : Kind) → AreLists l graph.new

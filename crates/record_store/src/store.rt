@@ -78,8 +78,9 @@ impl RecordStore {
     /// Sets the record of an id, or takes it away, and gives the one before. It counts one step. Where no transaction is
     /// open the write counts as committed.
     ///
-    /// It costs a look-up and a copy of the record, what becomes stale, and in each list that the id leaves or joins a look-up
-    /// for each halving and a copy of one part. The list before, for an undoing, and that for `diffs_since` share the others.
+    /// It costs a look-up and a copy of the record, what becomes stale, and in each list that the id leaves or joins two
+    /// look-ups and a copy of one part; where the list's hints don't lead to the place, a look-up for each halving. The list
+    /// before, for an undoing, and that for `diffs_since` share the others.
     ///
     /// # Errors
     ///

@@ -17,7 +17,7 @@ returns-in_default-clause-lists c =
     enlisted_nowhere c.args.listing m c.args.id.now (data_of c.args.record_.now) (rising-records c.args.keys.now (atoms_of c.args.graph.now)) c.args.graph.now c.requires.lists (sym c.in_default.ensures)
 
 pub with_id-requires : goal.with_id-requires
-with_id-requires c = c.place_among-place.ensures.bound
+with_id-requires c = c.in_ok-place.ensures.bound
 
 pub returns-clause-lists : goal.returns-clause-lists
 returns-clause-lists c =
@@ -27,11 +27,11 @@ returns-clause-lists c =
     let d = data_of c.args.record_.now in
     let owner = c.in-Some.owner.now in
     let key = c.in_ok-key.key in
-    let n = c.place_among-place.result in
+    let n = c.in_ok-place.place in
     let rising = rising-records c.args.keys.now (atoms_of c.args.graph.now) in
     let ids : c.in_ok-ids.ids ≡ listed l (without_key m id) owner =
     ids_are l c.args.graph.now (without_key m id) owner key c.in_ok-ids.ids c.requires.lists c.in_ok-key.ensures c.in_ok-ids.ensures in
-    let point = place_to_join l m id d rising owner c.index.result.now c.in_ok-ids.ids n c.index.ensures ids c.place_among-place.ensures.place in
+    let point = place_to_join l m id d rising owner c.index.result.now c.in_ok-ids.ids n c.index.ensures ids (c.in_ok-place.ensures.place m c.requires.records) in
     let change : ChangesOnly (λ k. k ≡ key_of l owner) c.args.graph.now c.set_atom.new.graph =
     subst (λ (x : TlKey). ChangesOnly (λ k. k ≡ x) c.args.graph.now c.set_atom.new.graph) c.in_ok-key.ensures c.set_atom.ensures.left in
     on_ok c.set_atom.result

@@ -4,7 +4,7 @@ use Rattle.rooms_val.specs.Maps.{with_key, without_key}
 use Rattle.rooms_val.specs.View.{data_of}
 use Rattle.record_store.specs.Lists.{atoms_of, records_of, AreLists}
 use Rattle.record_store.proofs.FrameLemmas.{in_turn, wider, on_ok}
-use Rattle.record_store.proofs.ListLemmas.{unmoved, records_apart, same_after, not_alike}
+use Rattle.record_store.proofs.ListLemmas.{unmoved, has_still, records_apart, same_after, not_alike}
 use Rattle.record_store.proofs.RecordLemmas.{rising-records}
 use Rattle.record_store.proofs.lists.move_id.Goals as goal
 
@@ -19,7 +19,10 @@ returns-in_err-unlist-clause-left c = wider _ _ c.args.graph.now c.unlist.new.gr
 pub enlist-requires : goal.enlist-requires
 enlist-requires c =
     let same = same_after c.args.keys.now c.requires.keys c.args.graph.now c.unlist.new.graph _ (λ q h. records_apart c.args.listing c.args.id.now q (Some (data_of c.args.before.now)) h) c.unlist.ensures.left in
-    record { lists = subst (λ (m : Pairs). AreLists c.args.listing c.unlist.new.graph (without_key m c.args.id.now)) (sym same) c.in_ok-unlist.ensures.lists }
+    record {
+      records = has_still _ c.args.graph.now c.unlist.new.graph (records_of c.args.keys.now c.args.graph.now) _ (λ q h. records_apart c.args.listing c.args.id.now q (Some (data_of c.args.before.now)) h) c.unlist.ensures.left same c.requires.records;
+      lists = subst (λ (m : Pairs). AreLists c.args.listing c.unlist.new.graph (without_key m c.args.id.now)) (sym same) c.in_ok-unlist.ensures.lists;
+    }
 
 pub returns-clause-lists : goal.returns-clause-lists
 returns-clause-lists c =

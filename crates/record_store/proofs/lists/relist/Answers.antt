@@ -10,7 +10,7 @@ use Rattle.record_store.proofs.lists.relist.Goals as goal
 pub enlist-requires : goal.enlist-requires
 enlist-requires c =
     let m = records_of c.args.keys.now c.args.graph.now in
-    record { lists = subst (AreLists c.args.listing c.args.graph.now) (sym (without_absent m c.args.id.now (c.requires.there ∙ ap maybe_data c.in-None.is))) c.requires.lists }
+    record { records = c.requires.records; lists = subst (AreLists c.args.listing c.args.graph.now) (sym (without_absent m c.args.id.now (c.requires.there ∙ ap maybe_data c.in-None.is))) c.requires.lists }
 
 pub returns-in-None-after-2-clause-lists : goal.returns-in-None-after-2-clause-lists
 returns-in-None-after-2-clause-lists c =

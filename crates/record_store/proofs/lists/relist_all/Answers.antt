@@ -5,11 +5,15 @@ use Rattle.field_ops.specs.View.{maybe_data}
 use Rattle.board_lists.specs.declared.listing.Listing.TheVariants.{Children, BoundFrom, BoundTo}
 use Rattle.record_store.specs.Lists.{records_of, AreLists}
 use Rattle.record_store.proofs.FrameLemmas.{in_turn, wider, on_ok}
-use Rattle.record_store.proofs.ListLemmas.{lists_unmoved, same_moved, each_kind, from_to, children_from, children_to, to_from, from_children, to_children}
+use Rattle.record_store.proofs.ListLemmas.{lists_unmoved, same_moved, has_moved, each_kind, from_to, children_from, children_to, to_from, from_children, to_children}
 use Rattle.record_store.proofs.lists.relist_all.Goals as goal
 
 pub relist-requires-clause-lists : goal.relist-requires-clause-lists
 relist-requires-clause-lists c = c.requires.lists Children
+
+pub relist-requires-2-clause-records : goal.relist-requires-2-clause-records
+relist-requires-2-clause-records c =
+    has_moved c.args.keys.now c.requires.keys c.args.graph.now c.relist.new.graph Children c.args.id.now (maybe_data c.args.before.now) (maybe_data c.args.after.now) c.relist.ensures.left c.requires.records
 
 pub relist-requires-2-clause-lists : goal.relist-requires-2-clause-lists
 relist-requires-2-clause-lists c =
@@ -30,6 +34,14 @@ returns-in_err-relist-2-clause-left c =
     in_turn _ c.args.graph.now c.relist.new.graph c.relist-2.new.graph
     (wider _ _ c.args.graph.now c.relist.new.graph (λ k h. (Children, h)) c.relist.ensures.left)
     (wider _ _ c.relist.new.graph c.relist-2.new.graph (λ k h. (BoundFrom, h)) c.relist-2.ensures.left)
+
+pub relist-requires-3-clause-records : goal.relist-requires-3-clause-records
+relist-requires-3-clause-records c =
+    let id = c.args.id.now in
+    let before = maybe_data c.args.before.now in
+    let after = maybe_data c.args.after.now in
+    has_moved c.args.keys.now c.requires.keys c.relist.new.graph c.relist-2.new.graph BoundFrom id before after c.relist-2.ensures.left
+    (has_moved c.args.keys.now c.requires.keys c.args.graph.now c.relist.new.graph Children id before after c.relist.ensures.left c.requires.records)
 
 pub relist-requires-3-clause-lists : goal.relist-requires-3-clause-lists
 relist-requires-3-clause-lists c =

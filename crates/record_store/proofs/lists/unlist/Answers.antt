@@ -22,10 +22,10 @@ without_id-requires c =
     let id = c.args.id.now in
     let d = data_of c.args.record_.now in
     let owner = c.in-Some.owner.now in
-    let n = c.place_among-place.result in
+    let n = c.in_ok-place.place in
     let rising = rising-records c.args.keys.now (atoms_of c.args.graph.now) in
     let ids : c.in_ok-ids.ids ≡ listed l m owner = ids_are l c.args.graph.now m owner c.in_ok-key.key c.in_ok-ids.ids c.requires.lists c.in_ok-key.ensures c.in_ok-ids.ensures in
-    let point = place_to_leave l m id d rising owner c.index.result.now c.in_ok-ids.ids n c.index.ensures ids c.place_among-place.ensures.place in
+    let point = place_to_leave l m id d rising owner c.index.result.now c.in_ok-ids.ids n c.index.ensures ids (c.in_ok-place.ensures.place m c.requires.records) in
     subst (λ xs. n < length xs) (sym ids) (within_list l m id d rising owner n c.requires.there (sym c.in-Some.ensures) point)
 
 pub returns-clause-lists : goal.returns-clause-lists
@@ -36,10 +36,10 @@ returns-clause-lists c =
     let d = data_of c.args.record_.now in
     let owner = c.in-Some.owner.now in
     let key = c.in_ok-key.key in
-    let n = c.place_among-place.result in
+    let n = c.in_ok-place.place in
     let rising = rising-records c.args.keys.now (atoms_of c.args.graph.now) in
     let ids : c.in_ok-ids.ids ≡ listed l m owner = ids_are l c.args.graph.now m owner key c.in_ok-ids.ids c.requires.lists c.in_ok-key.ensures c.in_ok-ids.ensures in
-    let point = place_to_leave l m id d rising owner c.index.result.now c.in_ok-ids.ids n c.index.ensures ids c.place_among-place.ensures.place in
+    let point = place_to_leave l m id d rising owner c.index.result.now c.in_ok-ids.ids n c.index.ensures ids (c.in_ok-place.ensures.place m c.requires.records) in
     let change : ChangesOnly (λ k. k ≡ key_of l owner) c.args.graph.now c.set_atom.new.graph =
     subst (λ (x : TlKey). ChangesOnly (λ k. k ≡ x) c.args.graph.now c.set_atom.new.graph) c.in_ok-key.ensures c.set_atom.ensures.left in
     on_ok c.set_atom.result

@@ -1,12 +1,18 @@
 use Rattle.std.proofs.Common.{◌≡◌, Option, inr, sym, ap, subst, ◌∙◌}
 use Rattle.rooms_val.specs.Data.{Data}
+use Rattle.rooms_val.specs.Maps.{value_at}
 use Rattle.field_ops.specs.View.{maybe_data}
+use Rattle.tl_rules.specs.Answers.{record_in}
+use Rattle.tl_rules.proofs.BoxLemmas.{record_back}
 use Rattle.tl_rules.specs.declared.key.TlKey.TheVariants as key
 use Rattle.tl_rules.specs.declared.value.TlValue.TheVariants as value
-use Rattle.record_store.specs.Lists.{atoms_of, IsWritten, IsTold, ChangesOnly}
+use Rattle.record_store.specs.Lists.{atoms_of, records_of, IsWritten, IsTold, ChangesOnly}
 use Rattle.record_store.proofs.FrameLemmas.{wider}
 use Rattle.record_store.proofs.WriteLemmas.{IsSetAfter, records_set, board_set, told_set, all_changed}
 use Rattle.record_store.proofs.lists.write_all.Goals as goal
+
+pub relist_all-requires-clause-records : goal.relist_all-requires-clause-records
+relist_all-requires-clause-records c = λ q. ap record_in (c.requires.board.plain.record_at q) ∙ record_back (value_at (records_of c.args.keys.now c.args.graph.now) q)
 
 pub returns-in_err-relist_all-clause-left : goal.returns-in_err-relist_all-clause-left
 returns-in_err-relist_all-clause-left c =
