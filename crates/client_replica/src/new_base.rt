@@ -83,8 +83,9 @@ impl NewBase {
         id: &Text,
         op: &RecordOp,
     ) -> Mem<()>
-        ensures document { OnOk result (AreStepped (schema_tree schema.now) ((id.now, change_of op.now) ∷ [])
-            (D.records store.now) stash.now self.old.changes self.new.changes) }
+        ensures document { OnOk result (AreStepped (schema_tree schema.now)
+            ((id.now, change_of op.now) ∷ []) (D.records store.now) stash.now
+            self.old.changes self.new.changes) }
         ensures presence { OnOk result (self.new.others
             ≡ step (is_admitted (schema_tree schema.now)) self.old.others (ops_with (is_presence
             (schema_tree schema.now)) ((id.now, change_of op.now) ∷ []))) }
@@ -134,7 +135,8 @@ impl NewBase {
         first: Option<&Work>,
         event: &DataEvent,
     ) -> Mem<()>
-        ensures document { OnOk result (AreStepped (schema_tree schema.now) (event_diff (option_map work_of (option_copied first.entry)) event.now)
+        ensures document { OnOk result (AreStepped (schema_tree schema.now)
+            (event_diff (option_map work_of (option_copied first.entry)) event.now)
             (D.records store.now) stash.now self.old.changes self.new.changes) }
         ensures presence { OnOk result (self.new.others
             ≡ step (is_admitted (schema_tree schema.now)) self.old.others (ops_with (is_presence
@@ -170,7 +172,8 @@ impl NewBase {
         edit: &Diff,
         action: &Action,
     ) -> Mem<()>
-        ensures document { OnOk result (AreStepped (schema_tree schema.now) (result_diff edit.now action.now)
+        ensures document { OnOk result (AreStepped (schema_tree schema.now)
+            (result_diff edit.now action.now)
             (D.records store.now) stash.now self.old.changes self.new.changes) }
         ensures presence { OnOk result (self.new.others
             ≡ step (is_admitted (schema_tree schema.now)) self.old.others (ops_with (is_presence
@@ -221,7 +224,8 @@ impl NewBase {
         stash: &Stash,
         action: &Action,
     ) -> Mem<()>
-        ensures document { OnOk result (AreStepped (schema_tree schema.now) (result_diff [] action.now)
+        ensures document { OnOk result (AreStepped (schema_tree schema.now)
+            (result_diff [] action.now)
             (D.records store.now) stash.now self.old.changes self.new.changes) }
         ensures presence { OnOk result (self.new.others
             ≡ step (is_admitted (schema_tree schema.now)) self.old.others (ops_with (is_presence

@@ -126,10 +126,10 @@ impl<D: DocStore> Replica<D> {
     /// Takes what happened in the room: the events are done to the base in order, and each result ends the first pending
     /// work. Where each commits the first work that is left then, and these name ids of the document alone, the store stays
     /// and no step is counted. Else what is shown is written under the ids that the events bring and under those that the
-    /// ended works name, and under no other. It counts at most one step for each operation that the events bring, and two for
-    /// each operation of the works that they end. For each of these ids that pending edits name the works left are walked
-    /// twice. It costs that, and where a presence changes a copy of the list of them; never the document. Where memory is
-    /// refused the replica is as before.
+    /// ended works name. It counts at most one step for each operation that the events bring, and two for each operation of
+    /// the works that they end. For each of these ids that pending edits name the works left are walked twice. It costs that,
+    /// and where a presence changes a copy of the list of them; never the document. Where memory is refused the replica is as
+    /// before.
     pub fn take_events<L: Ledger>(
         &mut self,
         alloc: Global,
