@@ -16,4 +16,4 @@ pub mod worker;
 
 pub use ending::{End, JoinEnd};
 pub use play::join_link;
-pub use worker::join_job;
+pub use worker::{WORKER_FAILED, join_job};

@@ -47,7 +47,8 @@ pub fn join_link<K: Link, S: Source, W: Sink, L: Ledger>(
 ) -> JoinEnd
     // What the script writes and says, where the source tells it and the link tells what is to come.
     ensures played { (schemas : WorldSchemas EditFault) → AreOfTables schemas
-        → PlaysIn schemas room (S.left source.old) (ended_by result) (W.held sink.old) (W.held sink.new)
+        → PlaysIn schemas room (S.left source.old) (ended_by result) (W.held sink.old)
+        (W.held sink.new)
         (K.told link.old) (K.told link.new) }
 
     // The source held a front of at most 2^30 bytes, followed by what it holds.
@@ -74,7 +75,8 @@ fn play<K: Link, S: Source, W: Sink, L: Ledger>(
 ) -> Result<End, Stop>
     requires { script.old.joiner ≡ None }
     ensures played { (schemas : WorldSchemas EditFault) → AreOfTables schemas
-        → PlaysIn schemas script.old.room (S.left source.old) (played_to result) (W.held sink.old) (W.held sink.new)
+        → PlaysIn schemas script.old.room (S.left source.old) (played_to result) (W.held sink.old)
+        (W.held sink.new)
         (K.told link.old) (K.told link.new) }
     ensures reads { Reads most_bytes (S.left source.old) (S.left source.new) }
     ensures read_failed { IsErrOf result stop.Read → S.faults source.old < S.faults source.new }
@@ -101,7 +103,8 @@ fn take_lines<K: Link, S: Source, W: Sink, L: Ledger>(
     requires unread { reader.old.unread ≡ most_bytes }
     requires longest { reader.old.longest ≡ longest_line }
     ensures played { (schemas : WorldSchemas EditFault) → AreOfTables schemas
-        → PlaysIn schemas script.old.room (S.left source.old) (played_to result) (W.held sink.old) (W.held sink.new)
+        → PlaysIn schemas script.old.room (S.left source.old) (played_to result) (W.held sink.old)
+        (W.held sink.new)
         (K.told link.old) (K.told link.new) }
     ensures reads { Reads most_bytes (S.left source.old) (S.left source.new) }
     ensures read_failed { IsErrOf result stop.Read → S.faults source.old < S.faults source.new }
@@ -132,16 +135,20 @@ fn next_reply<K: Link, S: Source, L: Ledger>(
 ) -> Result<Reply, Stop>
     requires { LONGEST_LINE ≤ reader.old.longest }
     ensures comes { Tells (λ old new. (schemas : WorldSchemas EditFault) → AreOfTables schemas
-        → ComesNext schemas script.old.room script.old.joiner reader.old.longest at (budget reader.old)
+        → ComesNext schemas script.old.room script.old.joiner reader.old.longest at
+        (budget reader.old)
         (to_come reader.old (S.left source.old)) result script.new.joiner old new)
         (K.told link.old) (K.told link.new) }
     ensures left { IfOk result (λ reply. reply.end ≡ None
-        → LeavesLines reader.old.longest (budget reader.old) (to_come reader.old (S.left source.old))
+        → LeavesLines reader.old.longest (budget reader.old)
+        (to_come reader.old (S.left source.old))
         (budget reader.new) (to_come reader.new (S.left source.new))) }
-    ensures shorter { IfOk result (λ reply. reply.end ≡ None → budget reader.new < budget reader.old) }
+    ensures shorter { IfOk result (λ reply. reply.end ≡ None
+        → budget reader.new < budget reader.old) }
     ensures room { script.new.room ≡ script.old.room }
     ensures longest { reader.new.longest ≡ reader.old.longest }
-    ensures taken { TakesUnread reader.old.unread reader.new.unread (S.left source.old) (S.left source.new) }
+    ensures taken { TakesUnread reader.old.unread reader.new.unread (S.left source.old)
+        (S.left source.new) }
     ensures source_stays { S.faults source.old ≤ S.faults source.new }
     ensures read_failed { IsErrOf result stop.Read → S.faults source.old < S.faults source.new }
     ensures link_stays { K.faults link.old ≤ K.faults link.new }

@@ -67,7 +67,8 @@ impl Script {
     ) -> Result<Reply, Stop>
         ensures comes { Tells (λ old new. (schemas : WorldSchemas EditFault) → AreOfTables schemas
             → (progress : Progress) → Reads schemas progress self.old.joiner
-            → Comes schemas (Takes schemas at self.old.room progress line.now) result self.new.joiner old new)
+            → Comes schemas (Takes schemas at self.old.room progress line.now) result
+            self.new.joiner old new)
             (K.told link.old) (K.told link.new) }
         ensures room { self.new.room ≡ self.old.room }
         ensures faults_stay { K.faults link.old ≤ K.faults link.new }
@@ -93,7 +94,8 @@ impl Script {
         link: &mut K,
     ) -> Result<Reply, Stop>
         ensures comes { Tells (λ old new. (schemas : WorldSchemas EditFault) → AreOfTables schemas
-            → Comes schemas (TakesHeader schemas at self.old.room line.now) result self.new.joiner old new)
+            → Comes schemas (TakesHeader schemas at self.old.room line.now) result
+            self.new.joiner old new)
             (K.told link.old) (K.told link.new) }
         ensures room { self.new.room ≡ self.old.room }
         ensures faults_stay { K.faults link.old ≤ K.faults link.new }
@@ -237,7 +239,8 @@ fn follow<K: Link, L: Ledger>(
 ) -> Result<Reply, Stop>
     ensures comes { Tells (λ old new. (schemas : WorldSchemas EditFault) (client : model.Joiner)
         → Stands schemas client joiner.old
-        → Comes schemas (λ coming turn. turn ≡ followed schemas (record { joiner = client; lines = lines.items }) coming)
+        → Comes schemas (λ coming turn.
+        turn ≡ followed schemas (record { joiner = client; lines = lines.items }) coming)
         result (Some joiner.new) old new) (K.told link.old) (K.told link.new) }
     ensures faults_stay { K.faults link.old ≤ K.faults link.new }
     ensures failed { IsErrOf result stop.Link → K.faults link.old < K.faults link.new }

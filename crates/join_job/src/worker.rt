@@ -21,8 +21,8 @@ use std::alloc::Global;
 use std::collections::VecDeque;
 use std::sync::ledger::Ledger;
 
-// The status of a job whose worker failed.
-const WORKER_FAILED: u8 = 7;
+/// The status of a job of which a worker failed.
+pub const WORKER_FAILED: u8 = 7;
 
 /// Plays the script that the source holds over the next link of the first worker, as `join_link` does, and gives the link back at
 /// its end. Where there is no worker, or no link is left, it is played over a link that has ended.
@@ -40,7 +40,8 @@ pub fn join_job<A: Accept, S: Source, W: Sink, L: Ledger>(
     ensures known { IsJoinStatus result }
 
     // What the script writes and says, where the source tells what it holds, the worker its links, and the link its exchange.
-    ensures played { result ≢ 7 → PlaysOverWorkers A.Link.faults A.Link.told A.told room (S.left source.old)
+    ensures played { result ≢ 7
+        → PlaysOverWorkers A.Link.faults A.Link.told A.told room (S.left source.old)
         (W.held sink.old) (W.held sink.new) result workers.old.items workers.new.items }
 
     // The worker failed: the script wasn't begun.
@@ -77,7 +78,8 @@ fn join_first<A: Accept, S: Source, W: Sink, L: Ledger>(
     steps: &mut Steps<L>,
 ) -> Option<JoinEnd>
     ensures played { IfSome result (λ by. (schemas : WorldSchemas EditFault) → AreOfTables schemas
-        → PlaysOverFirst schemas room (S.left source.old) (W.held sink.old) (W.held sink.new) by A.Link.faults A.Link.told
+        → PlaysOverFirst schemas room (S.left source.old) (W.held sink.old)
+        (W.held sink.new) by A.Link.faults A.Link.told
         A.told workers.old.items workers.new.items) }
     ensures failed { result ≡ None → FirstFails A.faults A.told workers.old.items workers.new.items
         × (source.new ≡ source.old) × (sink.new ≡ sink.old) }
@@ -101,7 +103,8 @@ fn join_next<A: Accept, S: Source, W: Sink, L: Ledger>(
     steps: &mut Steps<L>,
 ) -> Option<JoinEnd>
     ensures played { IfSome result (λ by. (schemas : WorldSchemas EditFault) → AreOfTables schemas
-        → Tells (PlaysOverNext schemas room (S.left source.old) (W.held sink.old) (W.held sink.new) by A.Link.faults A.Link.told)
+        → Tells (PlaysOverNext schemas room (S.left source.old) (W.held sink.old)
+        (W.held sink.new) by A.Link.faults A.Link.told)
         (A.told worker.old) (A.told worker.new)) }
     ensures failed { result ≡ None → (A.faults worker.old < A.faults worker.new)
         × Tells (λ old new. new ≡ old) (A.told worker.old) (A.told worker.new)
@@ -132,7 +135,8 @@ fn join_ended<S: Source, W: Sink, L: Ledger>(
     steps: &mut Steps<L>,
 ) -> JoinEnd
     ensures played { (schemas : WorldSchemas EditFault) → AreOfTables schemas
-        → PlaysOverNone schemas room (S.left source.old) (W.held sink.old) (W.held sink.new) result }
+        → PlaysOverNone schemas room (S.left source.old) (W.held sink.old)
+        (W.held sink.new) result }
     ensures reads { Reads most_bytes (S.left source.old) (S.left source.new) }
     ensures read_failed { result ≡ join.Read → S.faults source.old < S.faults source.new }
     ensures write_failed { result ≡ join.Write → W.faults sink.old < W.faults sink.new }

@@ -116,7 +116,8 @@ impl Making {
         requires place { HasPlace 1 self.old }
         ensures ok { OnOk result ((schemas : WorldSchemas EditFault) (m : made.Making)
             (old : Option (List ℕ)) → IsMaking schemas m self.old old (K.held sink.old)
-            → IsMaking schemas (with_outcome print m event (after_event schemas false m.world event))
+            → IsMaking schemas (with_outcome print m event
+            (after_event schemas false m.world event))
             self.new old (K.held sink.new)) }
         ensures place { OnOk result ((more : ℕ) → HasPlace (1 + more) self.old
             → HasPlace more self.new) }

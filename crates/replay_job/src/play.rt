@@ -195,7 +195,8 @@ pub fn go_on<S: Source, K: Sink, L: Ledger>(
     requires number { at + budget reader.old ≤ 2 ^ 40 }
     ensures leaves { (progress : Progress) → Reads progress replay.old.world
         → Leaves replay.old.trace
-        (rest_of progress at reader.old.longest (budget reader.old) (to_come reader.old (S.left source.old)))
+        (rest_of progress at reader.old.longest (budget reader.old)
+        (to_come reader.old (S.left source.old)))
         result replay.new.world (K.held sink.old) (K.held sink.new) }
     ensures taken { TakesUnread reader.old.unread reader.new.unread
         (S.left source.old) (S.left source.new) }

@@ -34,15 +34,21 @@ use std::thread::Threads;
 fn main(rt: HostRuntime) -> io::Result<ExitCode> {
     let status = match words_of(&rt) {
         Ok(words) => answered(&rt, &rt, words.as_slice(), &mut io::writer(&rt))?,
-        // A word that isn't UTF-8 is in no row.
-        Err(error) => if error.kind() == io::ErrorKind::InvalidData {
-            run::USAGE
-        } else {
-            return Err(error);
-        },
+        Err(error) => unread(error)?,
     };
     tell(status, &mut rt.stderr())?;
     Ok(ExitCode::from(status))
+}
+
+// The status where the words can't be read: a word that isn't UTF-8 is in no row, or memory was refused.
+fn unread(error: io::Error) -> io::Result<u8>
+    ensures { IfOk result IsStatus }
+{
+    match error.kind() {
+        io::ErrorKind::InvalidData => Ok(run::USAGE),
+        io::ErrorKind::OutOfMemory => Ok(run::OUT_OF_MEMORY),
+        _ => Err(error),
+    }
 }
 
 /// Does what the words ask for, and answers the status. The help and the version go to `output`.
@@ -53,12 +59,15 @@ fn answered<R: Threads + Wait + Sync, W: Write>(
     output: &mut W,
 ) -> io::Result<u8>
     // Where the one word asks for the help or the version, that is written; of other words nothing is written here.
-    ensures written { OnOk result (IfSome (text_asked HELP.now VERSION.now (map string_bytes words.now))
+    ensures written { OnOk result (IfSome (text_asked HELP.now VERSION.now
+        (map string_bytes words.now))
         (Appends (W.contents output.old) (W.contents output.new))) }
-    ensures silent { text_asked HELP.now VERSION.now (map string_bytes words.now) ≡ None → output.new ≡ output.old }
+    ensures silent { text_asked HELP.now VERSION.now (map string_bytes words.now) ≡ None
+        → output.new ≡ output.old }
 
     // The status is 0 there, and else 2 exactly where the words ask for no job.
-    ensures usage { IfOk result (λ status. MatchOption (text_asked HELP.now VERSION.now (map string_bytes words.now))
+    ensures usage { IfOk result (λ status. MatchOption (text_asked HELP.now VERSION.now
+        (map string_bytes words.now))
         ((status ≡ 2) ↔ (job_named (map string_bytes words.now) ≡ None)) (λ _. status ≡ 0)) }
     ensures known { IfOk result IsStatus }
 {

@@ -28,6 +28,9 @@ use std::thread::Threads;
 /// The status of words that are in no row of the usage.
 pub const USAGE: u8 = 2;
 
+/// The status of who was refused memory.
+pub const OUT_OF_MEMORY: u8 = 6;
+
 /// Does what the words ask for, without the program's name, and returns the status with which the
 /// program ends: 0 where the job is done, 2 where the words ask for none, 3 where the recording or the
 /// script is refused, 4 where the source failed, 5 where the sink failed, 6 where memory was refused, 7
@@ -61,7 +64,8 @@ where
     // recording ends with 0, 5 or 6, a server with 0, 5, 6 or 7, and a client with 0 or 3 to 9.
     ensures usage { (result ≡ 2) ↔ (job_named (map string_bytes words.now) ≡ None) }
     ensures statuses { IsStatusOf (job_named (map string_bytes words.now)) result }
-    ensures untouched { result ≡ 2 → (source.new ≡ source.old) × (sink.new ≡ sink.old) × (workers.new ≡ workers.old) }
+    ensures untouched { result ≡ 2
+        → (source.new ≡ source.old) × (sink.new ≡ sink.old) × (workers.new ≡ workers.old) }
 
     // A replay: on 0 and 3 what the recording writes is written, and the status is the recording's;
     // on 4, 5 and 6 a front of it is written.
@@ -75,12 +79,14 @@ where
 
     // In each world to which its first lines lead, a client that has caught up with the room shows
     // the room's document.
-    ensures shown { (trace : Bool) → job_named (map string_bytes words.now) ≡ Some (Job.Replay trace)
+    ensures shown { (trace : Bool)
+        → job_named (map string_bytes words.now) ≡ Some (Job.Replay trace)
         → IfSome (S.left source.old) (CaughtUpPrintTheRoom trace) }
 
     // A recording that is saved: on 0 and 3 the line of the room that it leaves is written, or the fault line alone, and the
     // status is the recording's; on 4, 5 and 6 a front of that is written.
-    ensures saved { job_named (map string_bytes words.now) ≡ Some Job.Save → (result ≡ 0) ⊎ (result ≡ 3)
+    ensures saved { job_named (map string_bytes words.now) ≡ Some Job.Save
+        → (result ≡ 0) ⊎ (result ≡ 3)
         → SavesAll (S.left source.old) result (K.held sink.old) (K.held sink.new) }
     ensures unsaved { job_named (map string_bytes words.now) ≡ Some Job.Save
         → (result ≡ 4) ⊎ (result ≡ 5) ⊎ (result ≡ 6)
@@ -88,7 +94,8 @@ where
 
     // A recording that goes on from a saved room: on 0 and 3 what that writes is written, and the status is the
     // recording's; on 4, 5 and 6 a front of it is written.
-    ensures restored { job_named (map string_bytes words.now) ≡ Some Job.Restore → (result ≡ 0) ⊎ (result ≡ 3)
+    ensures restored { job_named (map string_bytes words.now) ≡ Some Job.Restore
+        → (result ≡ 0) ⊎ (result ≡ 3)
         → RestoresAll (S.left source.old) result (K.held sink.old) (K.held sink.new) }
     ensures unrestored { job_named (map string_bytes words.now) ≡ Some Job.Restore
         → (result ≡ 4) ⊎ (result ≡ 5) ⊎ (result ≡ 6)
@@ -117,10 +124,12 @@ where
     // A client: the script was played over the next link of the first worker, which got it back, where that tells its links; where
     // no worker is, or no link was left, over a link that has ended. The status is how it ended. On 7 the worker failed: no link was
     // handed out, and nothing was read or written.
-    ensures joined { (port room : ℕ) → job_named (map string_bytes words.now) ≡ Some (Job.Join port room)
+    ensures joined { (port room : ℕ)
+        → job_named (map string_bytes words.now) ≡ Some (Job.Join port room)
         → result ≢ 7 → PlaysOverWorkers A.Link.faults A.Link.told A.told room (S.left source.old)
         (K.held sink.old) (K.held sink.new) result workers.old.items workers.new.items }
-    ensures unjoined { (port room : ℕ) → job_named (map string_bytes words.now) ≡ Some (Job.Join port room)
+    ensures unjoined { (port room : ℕ)
+        → job_named (map string_bytes words.now) ≡ Some (Job.Join port room)
         → result ≡ 7 → FirstFails A.faults A.told workers.old.items workers.new.items
         × (source.new ≡ source.old) × (sink.new ≡ sink.old) }
 

@@ -4,7 +4,8 @@ ghost use Rattle.rooms.specs.Jobs.{job_named};
 ghost use Rattle.rooms.specs.Runs.{IsStatus};
 
 use crate::job::{Job, job_of};
-use crate::run::run;
+use crate::run::{OUT_OF_MEMORY, run};
+use join_job::WORKER_FAILED;
 use room_link::accept::Accept;
 use room_link::gate::OpenGate;
 use room_link::memory_accept::SteadyAccept;
@@ -22,13 +23,8 @@ use std::sync::ledger::{Blank, Ledger};
 use std::thread::Threads;
 use tungstenite::RandomKeys;
 
-// The statuses of who has no memory for workers, and of a server that can't listen.
-const OUT_OF_MEMORY: u8 = 6;
-
+// The status of a server that can't listen.
 const CANNOT_LISTEN: u8 = 7;
-
-// The status of a server of which a worker failed, and of a client that can't connect.
-const WORKER_FAILED: u8 = 7;
 
 /// Does what the words ask for: a server listens first, and a client has a worker that connects.
 pub(crate) fn started<R: Threads + Wait + Sync, L: Ledger>(

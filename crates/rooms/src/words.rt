@@ -46,7 +46,8 @@ pub(crate) fn words_of(rt: &HostRuntime) -> io::Result<Vec<String>> {
 
 /// The help or the version, where the one word asks for it.
 pub(crate) fn asked(words: &[String]) -> Option<&'static str>
-    ensures { option_map (λ text. text.now) result ≡ text_asked HELP.now VERSION.now (map string_bytes words.now) }
+    ensures { option_map (λ text. text.now) result
+        ≡ text_asked HELP.now VERSION.now (map string_bytes words.now) }
 {
     match words {
         [word] => text_of(word.as_str()),
@@ -84,7 +85,8 @@ fn message_of(status: u8) -> &'static str
 /// Tells on standard error why the program ends with a status: for words that ask for nothing, which
 /// words there are.
 pub(crate) fn tell<W: Write>(status: u8, errors: &mut W) -> io::Result<()>
-    ensures told { status ≡ 2 → OnOk result (Appends (W.contents errors.old) (W.contents errors.new) USAGE_LINE.now) }
+    ensures told { status ≡ 2
+        → OnOk result (Appends (W.contents errors.old) (W.contents errors.new) USAGE_LINE.now) }
     ensures silent { status ≡ 0 → errors.new ≡ errors.old }
 {
     let message = message_of(status);

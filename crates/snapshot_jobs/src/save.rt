@@ -139,7 +139,8 @@ fn text_of<L: Ledger>(
     world: Option<&ViewedWorld>,
     steps: &mut Steps<L>,
 ) -> Mem<Vec<u8>>
-    ensures { IfOk result (λ text. WritesLast last (option_map (λ (w : Bor ViewedWorld). w.now) world.entry) text.items) }
+    ensures { IfOk result (λ text. WritesLast last
+        (option_map (λ (w : Bor ViewedWorld). w.now) world.entry) text.items) }
 {
     match last {
         Last::Refused { at, fault } => fault_line(alloc, at, fault),

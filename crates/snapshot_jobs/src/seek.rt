@@ -33,7 +33,8 @@ pub(crate) fn seek<S: Source>(
     ensures found { IfOk result (λ sought. Seeks longest reader.old.longest at
         (budget reader.old) (to_come reader.old (S.left source.old))
         (budget reader.new) (to_come reader.new (S.left source.new)) reader.new.line sought) }
-    ensures number { IfOk result (λ sought. IfLine sought (λ n. n + budget reader.new < at + budget reader.old)) }
+    ensures number { IfOk result (λ sought. IfLine sought
+        (λ n. n + budget reader.new < at + budget reader.old)) }
     ensures longest { reader.new.longest ≡ reader.old.longest }
     ensures taken { TakesUnread reader.old.unread reader.new.unread
         (S.left source.old) (S.left source.new) }
