@@ -1,0 +1,77 @@
+//! Calls of a client, over a store that isn't the plain one.
+ghost use Rattle.std.specs.Prelude.{◌≡◌, ◌<◌};
+
+use crate::answers::{Answer, asked, presented, pushed, taken};
+use crate::calls::Call;
+use crate::player::Subject;
+use crate::stores::{VERSION, records_text};
+use rooms_val::{Mem, Steps, Val};
+use std::alloc::Global;
+use std::marker::Brand;
+use std::sync::ledger::{Blank, Ledger};
+use std::test::Fail;
+use sync_client::SyncClient;
+use test_with_cases::printed;
+use test_with_counts::CountingStore;
+use tl_tables::schema_at;
+
+/// A client that calls are done on.
+#[derive(Drop)]
+pub(crate) struct PlayedClient {
+    client: SyncClient<CountingStore>,
+}
+
+impl PlayedClient {
+    /// A client that did nothing.
+    pub(crate) fn new(alloc: Global) -> Result<PlayedClient, Fail> {
+        let schema = schema_at(alloc, VERSION)?;
+        Ok(PlayedClient {
+            client: SyncClient::new(alloc, schema, CountingStore::new(alloc)),
+        })
+    }
+}
+
+impl Subject for PlayedClient {
+    fn done(&mut self, alloc: Global, call: &Call) -> Mem<Answer> {
+        call_client(alloc, &mut self.client, call)
+    }
+
+    /// The clock that it has reached, how much it owes, its document, and the presence of others.
+    fn shown(&self, alloc: Global) -> Result<String, Fail> {
+        let clock = self.client.reached();
+        let owed = self.client.owed();
+        let document = records_text(alloc, self.client.store())?;
+        let others = printed(alloc, &Val::Map(self.client.others().copy(alloc)?))?;
+        Ok(format!(in alloc; "{clock} owes {owed}: {document} {others}")?)
+    }
+}
+
+/// Does a call. The steps are counted for nobody.
+fn call_client(alloc: Global, client: &mut SyncClient<CountingStore>, call: &Call) -> Mem<Answer> {
+    call_in::<Brand>(Blank::new(1), alloc, client, call)
+}
+
+fn call_in<L: Ledger>(
+    blank: Blank,
+    alloc: Global,
+    client: &mut SyncClient<CountingStore>,
+    call: &Call,
+) -> Mem<Answer>
+    requires name { blank.name ≡ L.name }
+    requires parts { blank.parts ≡ L.parts }
+    requires some { 0 < blank.parts }
+{
+    let mut steps = Steps::<L>::new(blank);
+    match call {
+        Call::Edit(diff) => Ok(Answer::Back(client.edit(alloc, diff.copy(alloc)?, &mut steps)?)),
+        Call::Take(message) => taken(client.take(alloc, message, &mut steps)),
+        Call::Presence(val) => presented(client.presence(alloc, val.copy(alloc)?)),
+        Call::Connect(request) => asked(client.connect(alloc, *request)),
+        Call::NextPush => Ok(pushed(client.next_push(alloc)?)),
+        Call::Lost => {
+            client.lost(alloc);
+            Ok(Answer::done())
+        }
+        _ => Ok(Answer::Word("no call of a client")),
+    }
+}

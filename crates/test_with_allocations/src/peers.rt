@@ -1,0 +1,124 @@
+//! Calls of a peer.
+ghost use Rattle.std.specs.Prelude.{◌≡◌, ◌<◌};
+
+use crate::answers::{Answer, asked, presented, pushed, taken};
+use crate::calls::Call;
+use crate::player::Subject;
+use crate::stores::VERSION;
+use live_views::{WatchFault, WatchId};
+use rooms_val::{Mem, OutOfMemory, Steps};
+use side_effects::EditFault;
+use std::alloc::Global;
+use std::marker::Brand;
+use std::sync::ledger::{Blank, Ledger};
+use std::test::Fail;
+use sync_peer::Peer;
+use test_with_cases::printed;
+use undo_marks::BailFault;
+
+/// A peer that calls are done on.
+#[derive(Drop)]
+pub(crate) struct PlayedPeer {
+    peer: Peer,
+}
+
+impl PlayedPeer {
+    /// A peer that did nothing.
+    pub(crate) fn new(alloc: Global) -> Result<PlayedPeer, Fail> {
+        Ok(PlayedPeer {
+            peer: Peer::new(alloc, VERSION)?,
+        })
+    }
+}
+
+impl Subject for PlayedPeer {
+    fn done(&mut self, alloc: Global, call: &Call) -> Mem<Answer> {
+        call_peer(alloc, &mut self.peer, call)
+    }
+
+    /// The clock that it has reached, how much it owes, its document, and the presence of others.
+    fn shown(&self, alloc: Global) -> Result<String, Fail> {
+        let clock = self.peer.reached();
+        let owed = self.peer.owed();
+        let document = printed(alloc, &self.peer.document(alloc)?)?;
+        let others = printed(alloc, &self.peer.others(alloc)?)?;
+        Ok(format!(in alloc; "{clock} owes {owed}: {document} {others}")?)
+    }
+}
+
+/// Does a call. The steps are counted for nobody.
+fn call_peer(alloc: Global, peer: &mut Peer, call: &Call) -> Mem<Answer> {
+    call_in::<Brand>(Blank::new(1), alloc, peer, call)
+}
+
+fn call_in<L: Ledger>(blank: Blank, alloc: Global, peer: &mut Peer, call: &Call) -> Mem<Answer>
+    requires name { blank.name ≡ L.name }
+    requires parts { blank.parts ≡ L.parts }
+    requires some { 0 < blank.parts }
+{
+    let mut steps = Steps::<L>::new(blank);
+    match call {
+        Call::Edit(diff) => edited(peer.edit(alloc, diff, &mut steps)),
+        Call::Take(message) => taken(peer.take(alloc, message, &mut steps)),
+        Call::Undo => Ok(was(peer.undo(alloc, &mut steps)?)),
+        Call::Redo => Ok(was(peer.redo(alloc, &mut steps)?)),
+        Call::Bail(name) => bailed(peer.bail(alloc, name.as_str(), &mut steps)),
+        Call::Told => Ok(Answer::Told(peer.told(alloc, &mut steps)?)),
+        _ => call_uncounted(alloc, peer, call),
+    }
+}
+
+/// Does a call of which no steps are counted.
+fn call_uncounted(alloc: Global, peer: &mut Peer, call: &Call) -> Mem<Answer> {
+    match call {
+        Call::Presence(val) => presented(peer.presence(alloc, val.copy(alloc)?)),
+        Call::Connect(request) => asked(peer.connect(alloc, *request)),
+        Call::NextPush => Ok(pushed(peer.next_push(alloc)?)),
+        Call::Lost => {
+            peer.lost(alloc);
+            Ok(Answer::done())
+        }
+        Call::Mark(name) => {
+            peer.mark(name.copy(alloc)?)?;
+            Ok(Answer::done())
+        }
+        Call::View(view) => watched(peer.watch(alloc, view)),
+        _ => Ok(Answer::Word("no call of a peer")),
+    }
+}
+
+/// What came of an edit.
+fn edited(given: Result<(), EditFault>) -> Mem<Answer> {
+    match given {
+        Ok(()) => Ok(Answer::done()),
+        Err(EditFault::OutOfMemory) => Err(OutOfMemory),
+        Err(_) => Ok(Answer::Word("refused")),
+    }
+}
+
+/// Whether there was something to take back or to do again.
+fn was(given: bool) -> Answer {
+    if given {
+        Answer::done()
+    } else {
+        Answer::Word("nothing")
+    }
+}
+
+/// What came of a bail.
+fn bailed(given: Result<(), BailFault>) -> Mem<Answer> {
+    match given {
+        Ok(()) => Ok(Answer::done()),
+        Err(BailFault::NoMark) => Ok(Answer::Word("NoMark")),
+        Err(BailFault::OutOfMemory) => Err(OutOfMemory),
+    }
+}
+
+/// The number of a watch.
+pub(crate) fn watched(given: Result<WatchId, WatchFault>) -> Mem<Answer> {
+    match given {
+        Ok(id) => Ok(Answer::Number(id.number)),
+        Err(WatchFault::Full) => Ok(Answer::Word("Full")),
+        Err(WatchFault::OutOfMemory) => Err(OutOfMemory),
+    }
+}
