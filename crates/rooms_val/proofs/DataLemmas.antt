@@ -1,7 +1,7 @@
 -- Values to and from their parts, and their soundness under each change.
 use Rattle.std.proofs.Common.{◌≡◌, ℕ, List, [], ◌∷◌, ◌++◌, Bool, Option, Some, None, not, cond, T, true, false, refl, sym, ap, subst}
 use Rattle.std.specs.FinMap.Entries.{where_key, is_sorted-where_key}
-use Rattle.rooms_val.specs.Data.{Data, map, Pairs, Items, no_items, item, items_of, list_of, Members, no_members, member, members_of, pairs_of, IsSound, AreSoundItems, AreSoundMembers, IsSoundRecord}
+use Rattle.rooms_val.specs.Data.{Data, map, Pairs, items_of, list_of, Members, no_members, member, members_of, pairs_of, IsSound, AreSoundItems, AreSoundMembers, IsSoundRecord}
 use Rattle.rooms_val.specs.Maps.{order, ties, AreRising, value_at, with_key, without_key, set_at, EachValue}
 use Rattle.rooms_val.specs.View.{data_of, val_of, items_view, pairs_view}
 use Rattle.rooms_val.specs.declared.val.Val.{Val}

@@ -1,5 +1,5 @@
 -- The value that a `Val` stands for, one level at a time: a list or map inside is already seen as what it holds.
-use Rattle.std.specs.Prelude.{◌≤◌, ℕ, suc, max, ◌+◌, List, [], ◌∷◌}
+use Rattle.std.specs.Prelude.{ℕ, List}
 use Rattle.std.specs.Prelude as std
 use Rattle.rooms_val.specs.Data.{Data, null, boolean, whole, text, list, map, items_of, members_of, Pairs, list_of, pairs_of}
 use Rattle.rooms_val.specs.Maps.{seen}

@@ -26,7 +26,7 @@ pub struct Fields {
 }
 
 impl Model for Fields {
-    ghost use Rattle.std.specs.Prelude.{List, suc};
+    ghost use Rattle.std.specs.Prelude.{suc};
     ghost use Rattle.rooms_val.specs.Data.{Pairs, members_of, members_depth, IsSound, map};
     ghost use Rattle.rooms_val.specs.Code.{coded_pairs};
 
@@ -126,23 +126,24 @@ impl Fields {
         }
     }
 
-    /// The value under a key. `None` exactly if the map lacks the key. It costs a logarithm of the map's size.
+    /// The value under a key. `None` exactly if the map lacks the key. At most 16 keys are looked at one by one, each by
+    /// its length and then its words, and more by halves.
     pub fn get(&self, key: &str) -> Option<&Val>
         ensures { option_map (λ v. data_of v.now) result ≡ value_at self.now key.now }
     {
         entries::get(self.as_slice(), key)
     }
 
-    /// The text under a key. `None` exactly if the map lacks the key or has another kind of value there. It costs a
-    /// logarithm of the map's size.
+    /// The text under a key. `None` exactly if the map lacks the key or has another kind of value there. At most 16 keys
+    /// are looked at one by one, each by its length and then its words, and more by halves.
     pub fn text_at(&self, key: &str) -> Option<&str>
         ensures { option_map (λ t. t.now) result ≡ text_at self.now key.now }
     {
         self.get(key)?.as_text()
     }
 
-    /// The number under a key. `None` exactly if the map lacks the key or has another kind of value there. It costs
-    /// a logarithm of the map's size.
+    /// The number under a key. `None` exactly if the map lacks the key or has another kind of value there. At most 16
+    /// keys are looked at one by one, each by its length and then its words, and more by halves.
     pub fn number_at(&self, key: &str) -> Option<i64>
         ensures { result ≡ number_at self.now key.now }
     {
@@ -171,6 +172,14 @@ impl Fields {
                 Ok(old)
             }
         }
+    }
+
+    /// The map with a further field, in place of the one under the key. It costs what `put` does.
+    pub fn with(mut self, alloc: Global, key: &str, val: Val) -> Mem<Fields>
+        ensures { IfOk result (λ made. made ≡ with_key self key.now (data_of val)) }
+    {
+        drop(self.put(Text::of(alloc, key)?, val)?);
+        Ok(self)
     }
 
     /// Takes a key away, and returns the value that it had. `None` exactly if the map lacks the key. Where memory is refused

@@ -96,8 +96,8 @@ impl Val {
         }
     }
 
-    /// The value under a key. `None` exactly if this is no map or lacks the key. It costs a logarithm of the map's
-    /// size.
+    /// The value under a key. `None` exactly if this is no map or lacks the key. At most 16 keys are looked at one by
+    /// one, each by its length and then its words, and more by halves.
     pub fn get(&self, key: &str) -> Option<&Val>
         ensures { option_map (λ v. data_of v.now) result ≡ field (data_of self.now) key.now }
     {

@@ -1,4 +1,4 @@
-use Rattle.std.proofs.Common.{◌+◌, slice_get, sym, ap, subst, ◌<◌, ◌∙◌, arith}
+use Rattle.std.proofs.Common.{◌+◌, slice_get, sym, ap, ◌∙◌, arith}
 use Rattle.std.specs.Ordering.{nat_cmp, ordering_then}
 use Rattle.rooms_val.specs.Data.{items_of, members_of}
 use Rattle.rooms_val.specs.Maps.{order}

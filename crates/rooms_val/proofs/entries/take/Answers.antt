@@ -1,4 +1,4 @@
-use Rattle.std.proofs.Common.{◌≡◌, ℕ, List, Some, sym, ap, subst, ◌∙◌}
+use Rattle.std.proofs.Common.{Some, sym, ap, subst, ◌∙◌}
 use Rattle.rooms_val.specs.Places.{IsPlace, IsGap}
 use Rattle.rooms_val.proofs.PlacesLemmas.{find_at_place, find_in_gap, where_at_place, where_in_gap}
 use Rattle.rooms_val.proofs.entries.take.Goals as goal
