@@ -10,7 +10,7 @@ use Rattle.std.proofs.lemmas.Map.Text.{is_eq-slice_cmp}
 use Rattle.std.proofs.lemmas.Bool.Decides.{nat_tests}
 use Rattle.std.proofs.Math.ListN.{drop_of_length-le}
 use Rattle.std.proofs.Math.Seq.{take-suc, drop-cons}
-use Rattle.migrate_seq.specs.declared.migration.Sequence.{Sequence}
+use Rattle.migrate_steps.specs.declared.migration.Sequence.{Sequence}
 use Rattle.migrate_seq.specs.Builds.{after_slash, inserted, by_id, doubled_after, doubled, have_rising_ids}
 use Rattle.migrate_seq.proofs.OrderLemmas.{both_true}
 

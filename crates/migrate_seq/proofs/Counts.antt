@@ -3,7 +3,7 @@ use Rattle.std.proofs.Common.{◌≡◌, ℕ, ◌+◌, Bool, true, false, cond, 
 use Rattle.std.specs.Prelude.{count_by}
 use Rattle.std.specs.Ordering.{nat_cmp, is_lt}
 use Rattle.std.specs.Cmp.Lexicographic.{slice_cmp}
-use Rattle.migrate_seq.specs.declared.migration.Sequence.{Sequence}
+use Rattle.migrate_steps.specs.declared.migration.Sequence.{Sequence}
 use Rattle.migrate_seq.specs.Builds.{inserted, by_id}
 use Rattle.migrate_seq.proofs.OrderLemmas.{count, count-is}
 

@@ -1,5 +1,3 @@
-pub mod RowLemmas
-pub mod RecordLemmas
 pub mod SerializedLemmas
 pub mod OrderLemmas
 pub mod PlanLemmas

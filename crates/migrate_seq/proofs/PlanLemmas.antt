@@ -5,13 +5,13 @@ use Rattle.std.specs.List.{list_any, list_all}
 use Rattle.std.specs.Option.{option_map_or, option_and_then}
 use Rattle.std.proofs.lemmas.Bool.Decides.{nat_tests}
 use Rattle.std.proofs.lemmas.Bool.{cases_lt}
-use Rattle.migrate_seq.specs.declared.migration.Migration.{Migration}
-use Rattle.migrate_seq.specs.declared.migration.Sequence.{Sequence}
+use Rattle.migrate_steps.specs.declared.migration.Migration.{Migration}
+use Rattle.migrate_steps.specs.declared.migration.Sequence.{Sequence}
 use Rattle.migrate_seq.specs.declared.fault.PlanFault.{PlanFault}
 use Rattle.migrate_seq.specs.declared.place.Place.{Place}
 use Rattle.migrate_seq.specs.Order.{first_some}
 use Rattle.migrate_seq.specs.Plans.{comes_before, places_from, missing_from, missing, places_of, first_missing, migration_at, follows, is_acyclic, can_all_scale, plan_of, IsPlan, refusal}
-use Rattle.migrate_seq.specs.Steps.{can_scale}
+use Rattle.migrate_steps.specs.Steps.{can_scale}
 use Rattle.migrate_seq.specs.Versions.{Versions}
 use Rattle.migrate_seq.proofs.OrderLemmas.{count, count-append, both_true, is_rising, IsWithin, all_taken, order_holds, one_order}
 

@@ -1,6 +1,4 @@
-pub mod Steps
 pub mod Versions
-pub mod Records
 pub mod Order
 pub mod Plans
 pub mod Builds

@@ -3,15 +3,15 @@ use Rattle.std.specs.Prelude.{ℕ, zero, suc, ◌-◌, nat_eq, nat_lt, List, [],
 use Rattle.std.specs.List.{list_any, list_all, filter_map}
 use Rattle.std.specs.Option.{option_map_or, option_and_then}
 use Rattle.std.specs.Str.{bytes_eq}
-use Rattle.migrate_seq.specs.declared.migration.Migration.{Migration}
-use Rattle.migrate_seq.specs.declared.migration.MigScope.{MigScope}
-use Rattle.migrate_seq.specs.declared.migration.MigScope.TheVariants.{Record, Store}
-use Rattle.migrate_seq.specs.declared.migration.Sequence.{Sequence}
+use Rattle.migrate_steps.specs.declared.migration.Migration.{Migration}
+use Rattle.migrate_steps.specs.declared.migration.MigScope.{MigScope}
+use Rattle.migrate_steps.specs.declared.migration.MigScope.TheVariants.{Record, Store}
+use Rattle.migrate_steps.specs.declared.migration.Sequence.{Sequence}
 use Rattle.migrate_seq.specs.declared.fault.PlanFault.{PlanFault}
 use Rattle.migrate_seq.specs.declared.fault.PlanFault.TheVariants.{TooNew, UnknownSequence}
 use Rattle.migrate_seq.specs.declared.place.Place.{Place}
 use Rattle.migrate_seq.specs.Order.{first_some, in_order, never_taken, IsOrderOf}
-use Rattle.migrate_seq.specs.Steps.{can_scale}
+use Rattle.migrate_steps.specs.Steps.{can_scale}
 use Rattle.migrate_seq.specs.Versions.{Versions}
 use Rattle.rooms_val.specs.Maps.{value_at, with_key}
 

@@ -5,12 +5,12 @@ ghost use Rattle.std.specs.Str.{bytes_eq};
 ghost use Rattle.migrate_seq.specs.Order.{first_some};
 ghost use Rattle.migrate_seq.specs.Plans.{places_of};
 ghost use Rattle.migrate_seq.specs.Builds.{after_slash, is_digit, is_decimal, number_of, digits_in, is_sequence_id, has_other_version, gap_from, gap, bad_id_among, bad_id, doubled, has_migration, is_known, unknown_in, unknown, inserted, by_id, ids_at};
-ghost use Rattle.migrate_seq.specs.declared.migration.Sequence.{Sequence};
+ghost use Rattle.migrate_steps.specs.declared.migration.Sequence.{Sequence};
 
-use crate::migration::{Migration, Sequence};
 use crate::order::at;
 use crate::place::Place;
 use crate::plan::push_places;
+use migrate_steps::{Migration, Sequence};
 use rooms_val::{Mem, Text};
 use std::alloc::Global;
 

@@ -7,8 +7,8 @@ ghost use Rattle.migrate_seq.specs.Order.{is_free, picked, in_order, never_taken
 ghost use Rattle.migrate_seq.specs.declared.place.Place.{Place};
 ghost use Rattle.migrate_seq.specs.Plans.{migration_at, depends_on, follows};
 
-use crate::migration::{Migration, Sequence};
 use crate::place::Place;
+use migrate_steps::{Migration, Sequence};
 use rooms_val::Mem;
 use std::alloc::Global;
 

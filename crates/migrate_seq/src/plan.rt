@@ -7,10 +7,10 @@ ghost use Rattle.migrate_seq.specs.declared.fault.PlanFault.TheVariants as plan_
 ghost use Rattle.migrate_seq.specs.Plans.{places_from, first_missing, missing, migrations_at, version_fault, first_fault, refusal, are_of_records, are_both_ways};
 
 use crate::fault::PlanFault;
-use crate::migration::{MigScope, Sequence};
 use crate::order::at;
 use crate::place::Place;
 use crate::serialized::Serialized;
+use migrate_steps::{MigScope, Sequence};
 use rooms_val::{Mem, Text};
 use std::alloc::Global;
 

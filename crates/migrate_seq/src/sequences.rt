@@ -6,19 +6,18 @@ ghost use Rattle.rooms_val.specs.View.{data_of};
 ghost use Rattle.migrate_seq.specs.declared.fault.PlanFault.TheVariants as plan_fault;
 ghost use Rattle.migrate_seq.specs.declared.fault.SeqFault.TheVariants as seq_fault;
 ghost use Rattle.migrate_seq.specs.Builds.{built, have_rising_ids};
-ghost use Rattle.migrate_seq.specs.Steps.{can_scale};
-ghost use Rattle.migrate_seq.specs.Records.{raised_along, raised_map, lowered_along};
+ghost use Rattle.migrate_steps.specs.Steps.{can_scale};
+ghost use Rattle.migrate_steps.specs.Records.{raised_along, raised_map, lowered_along};
 ghost use Rattle.migrate_seq.specs.Plans.{migration_at, migrations_at, is_acyclic, can_all_scale, plan_answer, IsPlan, newest_versions, are_both_ways, are_of_records};
 ghost use Rattle.migrate_seq.specs.Shown.{places_in, goes_both_ways, is_of_records};
 
 use crate::build::{all_places, bad_id, by_id, doubled, gap, ids_at, unknown};
 use crate::fault::{Ids, PlanFault, SeqFault};
-use crate::migration::{Migration, Sequence, migrate, migrate_each};
 use crate::order::{at, take_in_turn};
 use crate::place::Place;
 use crate::plan::{Plan, check, missing};
 use crate::serialized::Serialized;
-use crate::step::Way;
+use migrate_steps::{Migration, Sequence, Way, migrate, migrate_each};
 use rooms_val::{Fields, Mem, Val};
 use std::alloc::Global;
 

@@ -12,7 +12,7 @@ use Rattle.record_valid.specs.Fits.{Fits}
 use Rattle.record_valid.specs.Faults as check
 use Rattle.record_valid.specs.declared.reject.Reject.{Reject}
 use Rattle.record_valid.proofs.FitsLemmas as checks
-use Rattle.migrate_seq.specs.Records.{has_text}
+use Rattle.migrate_steps.specs.Records.{has_text}
 use Rattle.schema_core.specs.Tree.{TypeTree, SchemaTree}
 use Rattle.rooms_val.specs.Maps.{value_at}
 use Rattle.schema_core.specs.Admits.{admission_by, admission, IsAdmitted}

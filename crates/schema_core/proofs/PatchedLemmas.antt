@@ -14,7 +14,7 @@ use Rattle.record_valid.specs.Ids.{type_part, IsIdOf}
 use Rattle.record_valid.specs.Fits.{Fits}
 use Rattle.record_valid.specs.Faults as check
 use Rattle.record_valid.specs.declared.reject.Reject.{Reject}
-use Rattle.migrate_seq.specs.Records.{has_text}
+use Rattle.migrate_steps.specs.Records.{has_text}
 use Rattle.schema_core.specs.Tree.{TypeTree, SchemaTree}
 use Rattle.schema_core.specs.Admits.{type_of, admission_by, admission, IsAdmitted}
 use Rattle.schema_core.specs.declared.row.Scope.{Scope}

@@ -9,7 +9,7 @@ use Rattle.rooms_val.specs.Weight.{weight}
 use Rattle.record_valid.specs.Ids.{type_part, IsIdOf}
 use Rattle.record_valid.specs.Fits.{Fits}
 use Rattle.record_valid.specs.Faults as check
-use Rattle.migrate_seq.specs.Records.{has_text}
+use Rattle.migrate_steps.specs.Records.{has_text}
 use Rattle.schema_core.specs.Tree.{TypeTree, SchemaTree}
 use Rattle.schema_core.specs.declared.row.Scope.{Scope}
 use Rattle.schema_core.specs.declared.row.Scope.TheVariants.{Document, Session, Presence}

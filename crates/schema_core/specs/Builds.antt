@@ -1,7 +1,7 @@
 -- Which rows of types make a schema.
 use Rattle.std.specs.Prelude.{ℕ, List, [], ◌∷◌, ◌++◌, if◌then◌else◌, Option, Some, None, Result, Ok, Err, fold}
 use Rattle.std.specs.Option.{option_map_or}
-use Rattle.migrate_seq.specs.declared.migration.Sequence.{Sequence}
+use Rattle.migrate_steps.specs.declared.migration.Sequence.{Sequence}
 use Rattle.rooms_val.specs.Maps.{with_key, keys_of}
 use Rattle.record_valid.specs.Parts.{is_listed}
 use Rattle.schema_core.specs.Tree.{Types, SchemaTree}

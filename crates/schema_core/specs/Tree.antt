@@ -1,7 +1,7 @@
 -- What a schema is, as values that share nothing with how the code keeps it.
 use Rattle.std.specs.Prelude.{ℕ, List}
 use Rattle.record_valid.specs.Tree.{CheckTree}
-use Rattle.migrate_seq.specs.declared.migration.Sequence.{Sequence}
+use Rattle.migrate_steps.specs.declared.migration.Sequence.{Sequence}
 use Rattle.schema_core.specs.declared.row.Scope.{Scope}
 
 -- who shares the records of a type, and what such a record must be

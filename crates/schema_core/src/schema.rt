@@ -8,7 +8,7 @@ ghost use Rattle.rooms_val.specs.View.{data_of};
 ghost use Rattle.field_ops.specs.Patched.{patched};
 ghost use Rattle.field_ops.specs.ValueOps.{edits_of};
 ghost use Rattle.migrate_seq.specs.SequencesOf.{sequences_of};
-ghost use Rattle.migrate_seq.specs.Records.{has_text};
+ghost use Rattle.migrate_steps.specs.Records.{has_text};
 ghost use Rattle.schema_core.specs.Admits.{own_type};
 ghost use Rattle.schema_core.specs.declared.fault.SchemaFault.TheVariants as schema_fault;
 

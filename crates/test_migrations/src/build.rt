@@ -1,10 +1,11 @@
 //! Migrations and their steps.
 ghost use Rattle.std.specs.Prelude.{◌≡◌};
 ghost use Rattle.std.specs.List.{list_all};
-ghost use Rattle.migrate_seq.specs.Steps.{can_scale};
+ghost use Rattle.migrate_steps.specs.Steps.{can_scale};
 ghost use Rattle.migrate_seq.specs.Plans.{can_all_scale};
 
-use migrate_seq::{Filter, MigScope, MigStep, Migration, Sequence, Sequences};
+use migrate_seq::Sequences;
+use migrate_steps::{Filter, MigScope, MigStep, Migration, Sequence};
 use rooms_val::{Text, Val};
 use std::alloc::Global;
 use std::test::Fail;

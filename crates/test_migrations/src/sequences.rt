@@ -1,6 +1,7 @@
 //! Which sequences of migrations fit together.
 use crate::build::{can_all_scale, migration, texts};
-use migrate_seq::{Filter, MigStep, Migration, SeqFault, Sequence, Sequences};
+use migrate_seq::{SeqFault, Sequences};
+use migrate_steps::{Filter, MigStep, Migration, Sequence};
 use rooms_val::Text;
 use std::alloc::Global;
 use std::test::Fail;

@@ -1,6 +1,7 @@
 //! What the steps of migrations make of records, up and down.
 use crate::build::{built, migration, step};
-use migrate_seq::{Filter, MigStep, Migration, Plan, Sequence, Sequences, Serialized};
+use migrate_seq::{Plan, Sequences, Serialized};
+use migrate_steps::{Filter, MigStep, Migration, Sequence};
 use rooms_val::Text;
 use std::alloc::Global;
 use std::test::Fail;

@@ -6,10 +6,10 @@ use Rattle.std.specs.List.{list_all}
 use Rattle.std.proofs.lemmas.List.{length-map}
 use Rattle.std.specs.Ordering.{nat_cmp, is_lt}
 use Rattle.std.specs.Cmp.Lexicographic.{slice_cmp}
-use Rattle.migrate_seq.specs.declared.migration.Sequence.{Sequence}
-use Rattle.migrate_seq.specs.declared.step.MigStep.{MigStep}
-use Rattle.migrate_seq.specs.declared.step.MigStep.TheVariants.{Add, Remove, Rename, MapEnum, Scale, Nest, Unnest}
-use Rattle.migrate_seq.specs.Steps.{can_scale}
+use Rattle.migrate_steps.specs.declared.migration.Sequence.{Sequence}
+use Rattle.migrate_steps.specs.declared.step.MigStep.{MigStep}
+use Rattle.migrate_steps.specs.declared.step.MigStep.TheVariants.{Add, Remove, Rename, MapEnum, Scale, Nest, Unnest}
+use Rattle.migrate_steps.specs.Steps.{can_scale}
 use Rattle.migrate_seq.specs.Plans.{can_all_scale, is_acyclic, follows, places_of}
 use Rattle.migrate_seq.specs.Order.{never_taken}
 use Rattle.migrate_seq.specs.Builds.{inserted, by_id, ids_at, gap, bad_id, doubled, unknown, refuse, built}

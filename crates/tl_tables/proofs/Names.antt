@@ -1,7 +1,7 @@
 -- The names of the tables' types.
 use Rattle.std.proofs.Common.{◌≡◌, ℕ, List, None, Ok, Err, refl, ap, ◌∙◌}
 use Rattle.std.specs.Option.{option_map_or}
-use Rattle.migrate_seq.specs.declared.migration.Sequence.{Sequence}
+use Rattle.migrate_steps.specs.declared.migration.Sequence.{Sequence}
 use Rattle.schema_core.specs.Tree.{Types}
 use Rattle.schema_core.specs.Builds.{doubled, by_name, built}
 use Rattle.schema_core.specs.declared.fault.SchemaFault.TheVariants.{DoubledType}

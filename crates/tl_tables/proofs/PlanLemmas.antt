@@ -14,8 +14,8 @@ use Rattle.migrate_seq.specs.Plans.{migration_at, depends_on, follows, places_fr
 use Rattle.migrate_seq.specs.Versions.{Versions}
 use Rattle.migrate_seq.specs.declared.fault.PlanFault.{PlanFault}
 use Rattle.migrate_seq.specs.declared.fault.PlanFault.TheVariants.{TooNew, UnknownSequence}
-use Rattle.migrate_seq.specs.declared.migration.Migration.{Migration}
-use Rattle.migrate_seq.specs.declared.migration.Sequence.{Sequence}
+use Rattle.migrate_steps.specs.declared.migration.Migration.{Migration}
+use Rattle.migrate_steps.specs.declared.migration.Sequence.{Sequence}
 use Rattle.migrate_seq.specs.declared.place.Place.{Place}
 use Rattle.tl_tables.specs.Migrations.{asset_1, base_1, binding_1, page_1, shape_1, shape_2, sequence_at, asset, base, binding, page, shape, sequences}
 use Rattle.tl_tables.specs.Trees.{MigrationTree, SequenceTree, migration_tree, sequence_tree}

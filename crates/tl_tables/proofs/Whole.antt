@@ -4,8 +4,8 @@ use Rattle.std.specs.Prelude.{Vec}
 use native.Mathlib.Nat.{ℕ_set}
 use native.Mathlib.Bridge.{le_prop}
 use mathlib.Core.HLevel.{×_prop}
-use Rattle.migrate_seq.specs.declared.migration.Migration.{Migration}
-use Rattle.migrate_seq.specs.declared.migration.Sequence.{Sequence}
+use Rattle.migrate_steps.specs.declared.migration.Migration.{Migration}
+use Rattle.migrate_steps.specs.declared.migration.Sequence.{Sequence}
 use Rattle.migrate_seq.specs.Builds.{built}
 use Rattle.tl_tables.specs.Trees.{MigrationTree, SequenceTree, migration_tree, sequence_tree}
 use Rattle.tl_tables.specs.Migrations.{asset_1, base_1, binding_1, page_1, shape_1, shape_2, sequence_at, asset, base, binding, page, shape, sequences}

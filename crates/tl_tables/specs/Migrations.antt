@@ -1,8 +1,8 @@
 -- The migrations, in sequences.
 use Rattle.std.specs.Prelude.{ℕ, nat_le, nat_eq, List, [], ◌∷◌, Bool, true, false, not, length, map, filter, codes}
 use Rattle.rooms_val.specs.Data.{boolean, text}
-use Rattle.migrate_seq.specs.declared.migration.Filter.TheVariants.{All, Type_, Kind}
-use Rattle.migrate_seq.specs.declared.migration.MigScope.TheVariants.{Record, Store}
+use Rattle.migrate_steps.specs.declared.migration.Filter.TheVariants.{All, Type_, Kind}
+use Rattle.migrate_steps.specs.declared.migration.MigScope.TheVariants.{Record, Store}
 use Rattle.tl_tables.specs.Trees.{MigrationTree, SequenceTree, add, rename, map_enum, scale, nest}
 
 unfoldable pub asset_1 : MigrationTree

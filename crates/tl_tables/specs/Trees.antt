@@ -3,12 +3,12 @@ use Rattle.std.specs.Prelude.{ℕ, List, Bool}
 use Rattle.std.specs.Prelude as std
 use Rattle.rooms_val.specs.Data.{Data}
 use Rattle.rooms_val.specs.View.{data_of}
-use Rattle.migrate_seq.specs.declared.migration.Filter.{Filter}
-use Rattle.migrate_seq.specs.declared.migration.MigScope.{MigScope}
-use Rattle.migrate_seq.specs.declared.migration.Migration.{Migration}
-use Rattle.migrate_seq.specs.declared.migration.Sequence.{Sequence}
-use Rattle.migrate_seq.specs.declared.step.MigStep.{MigStep}
-use Rattle.migrate_seq.specs.declared.step.MigStep.TheVariants.{Add, Remove, Rename, MapEnum, Scale, Nest, Unnest}
+use Rattle.migrate_steps.specs.declared.migration.Filter.{Filter}
+use Rattle.migrate_steps.specs.declared.migration.MigScope.{MigScope}
+use Rattle.migrate_steps.specs.declared.migration.Migration.{Migration}
+use Rattle.migrate_steps.specs.declared.migration.Sequence.{Sequence}
+use Rattle.migrate_steps.specs.declared.step.MigStep.{MigStep}
+use Rattle.migrate_steps.specs.declared.step.MigStep.TheVariants.{Add, Remove, Rename, MapEnum, Scale, Nest, Unnest}
 
 -- the keys that lead to a map, from the record on
 abbrev pub Path : Type 0

@@ -3,7 +3,7 @@ ghost use Rattle.std.specs.Prelude.{◌≡◌, IfOk, map, [], ◌∷◌};
 ghost use Rattle.rooms_val.specs.View.{data_of};
 ghost use Rattle.tl_tables.specs.Trees as trees;
 
-use migrate_seq::MigStep;
+use migrate_steps::MigStep;
 use rooms_val::{Mem, Text, Val};
 use std::alloc::Global;
 

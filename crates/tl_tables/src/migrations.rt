@@ -2,14 +2,15 @@
 ghost use Rattle.std.specs.Prelude.{◌≡◌, ◌↔◌, IsTrue, IfOk, map, filter, false, true, [], ◌∷◌, codes};
 ghost use Rattle.migrate_seq.specs.SequencesOf.{sequences_of};
 ghost use Rattle.migrate_seq.specs.declared.fault.SeqFault.TheVariants as seq_fault;
-ghost use Rattle.migrate_seq.specs.declared.migration.MigScope.TheVariants as mig_scope;
+ghost use Rattle.migrate_steps.specs.declared.migration.MigScope.TheVariants as mig_scope;
 ghost use Rattle.rooms_val.specs.Data.{boolean, text};
 ghost use Rattle.tl_tables.specs.Trees as trees;
 ghost use Rattle.tl_tables.specs.Trees.{step_tree, migration_tree, sequence_tree};
 ghost use Rattle.tl_tables.specs.Migrations as rows;
 
 use crate::listed::{add, map_enum, nest, rename, scale, texts};
-use migrate_seq::{Filter, MigScope, MigStep, Migration, SeqFault, Sequence, Sequences};
+use migrate_seq::{SeqFault, Sequences};
+use migrate_steps::{Filter, MigScope, MigStep, Migration, Sequence};
 use rooms_val::{Mem, OutOfMemory, Text, Val};
 use std::alloc::Global;
 

@@ -1,7 +1,7 @@
 use Rattle.std.proofs.Common.{Some, None, option_map, ◌≡◌, ap, ◌∙◌}
 use Rattle.std.specs.Prelude.{IfSome, IsTrue}
 use Rattle.std.specs.List.{list_all}
-use Rattle.migrate_seq.specs.Steps.{can_scale}
+use Rattle.migrate_steps.specs.Steps.{can_scale}
 use Rattle.migrate_seq.specs.Plans.{migration_at, can_all_scale}
 use Rattle.migrate_seq.proofs.PlanLemmas.{scales_at}
 use Rattle.migrate_seq.proofs.sequences.Sequences.at.Goals as goal

@@ -1,7 +1,7 @@
 use Rattle.std.proofs.Common.{◌≡◌, ◌≤◌, drop, length}
 use Rattle.rooms_val.specs.View.{data_of}
 use Rattle.migrate_seq.specs.Plans.{migrations_at}
-use Rattle.migrate_seq.specs.Records.{lowered_along}
+use Rattle.migrate_steps.specs.Records.{lowered_along}
 use Rattle.migrate_seq.proofs.sequences.Sequences.down.Given as goal
 
 -- the migrations from here on were run down

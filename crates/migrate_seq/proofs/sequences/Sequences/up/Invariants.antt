@@ -1,7 +1,7 @@
 use Rattle.std.proofs.Common.{◌≡◌, drop}
 use Rattle.rooms_val.specs.View.{data_of}
 use Rattle.migrate_seq.specs.Plans.{migrations_at}
-use Rattle.migrate_seq.specs.Records.{raised_along}
+use Rattle.migrate_steps.specs.Records.{raised_along}
 use Rattle.migrate_seq.proofs.sequences.Sequences.up.Given as goal
 
 -- what the migrations from here on make of it is what all make of the record

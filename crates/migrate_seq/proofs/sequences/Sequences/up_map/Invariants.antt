@@ -1,6 +1,6 @@
 use Rattle.std.proofs.Common.{◌≡◌, drop}
 use Rattle.migrate_seq.specs.Plans.{migrations_at}
-use Rattle.migrate_seq.specs.Records.{raised_map}
+use Rattle.migrate_steps.specs.Records.{raised_map}
 use Rattle.migrate_seq.proofs.sequences.Sequences.up_map.Given as goal
 
 -- what the migrations from here on make of it is what all make of the map

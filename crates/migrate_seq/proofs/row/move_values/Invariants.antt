@@ -1,7 +1,0 @@
-use Rattle.std.proofs.Common.{◌≡◌, drop}
-use Rattle.migrate_seq.specs.Steps.{moved}
-use Rattle.migrate_seq.proofs.row.move_values.Given as goal
-
--- the keys so far have moved
-abbrev pub invariant-loop-key : goal.invariant-loop-key
-invariant-loop-key l = moved l.keys (l.initial.from, l.initial.to) ≡ moved (drop l.key-index l.keys) (l.from, l.to)
