@@ -54,7 +54,14 @@ StandsFor slot (Some watched) =
 abbrev pub Stand : List (Option (Watch TlKey TlValue)) → Watches → Type 0
 Stand slots watches = (number : ℕ) → StandsFor (watch_at slots number) (slice_index_or watches number None)
 
+-- a number watches a view, of which nothing was told
+abbrev pub IsUntold : Watches → ℕ → View → Type 0
+IsUntold watches number view = slice_index_or watches number None ≡ Some (record { view = view; told = None })
+
+-- other numbers watch what they did
+abbrev pub OthersWatchOn : Watches → Watches → ℕ → Type 0
+OthersWatchOn old new number = (other : ℕ) → other ≢ number → slice_index_or new other None ≡ slice_index_or old other None
+
 -- the watches with one more by a number
 abbrev pub IsWatching : Watches → Watches → ℕ → View → Type 0
-IsWatching old new number view =
-    (slice_index_or new number None ≡ Some (record { view = view; told = None })) × ((other : ℕ) → other ≢ number → slice_index_or new other None ≡ slice_index_or old other None)
+IsWatching old new number view = IsUntold new number view × OthersWatchOn old new number

@@ -17,4 +17,4 @@ pub mod write;
 pub use rooms_val::TxnFault;
 pub use signal_core::{Ask, News, Rules, WatchFault, WatchId};
 pub use since::Since;
-pub use txn::Txn;
+pub use txn::{MOST_OPEN, Txn};

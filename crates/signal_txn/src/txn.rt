@@ -12,6 +12,7 @@ ghost use Rattle.signal_txn.specs.Histories.{History, Keeps};
 ghost use Rattle.signal_txn.specs.Level.{unwritten};
 ghost use Rattle.signal_txn.specs.Seen.{atoms_in, begun, KeepsOn, IsGotIn, IsSetIn, IsCommitted, IsAborted};
 ghost use Rattle.signal_txn.specs.Since.{IsSince, AreAllSince};
+ghost use Rattle.signal_txn.specs.declared.txn.TheConstants.{MOST_OPEN};
 
 use crate::journal::{begin, commit, join};
 use crate::last_writes::LastWrites;
@@ -25,8 +26,8 @@ use std::alloc::Global;
 use std::marker::Model;
 use std::sync::ledger::Ledger;
 
-/// How many transactions may be open.
-const DEEPEST: usize = 17;
+/// How many transactions may be open: those of a store, and one more within them.
+pub const MOST_OPEN: usize = 17;
 
 /// A graph whose atoms are set in transactions, which nest.
 #[derive(Drop)]
@@ -285,10 +286,10 @@ impl<R: Rules + Drop> Txn<R> {
             ∷ begun (R.meaning self.old.graph.values.rules) R.Key.cmp self.old) }
         ensures writes { OnOk result (KeepsOn (λ history. [] ∷ history) self.old self.new) }
         ensures graph { self.new.graph ≡ self.old.graph }
-        ensures nested { (result ≡ Err TxnFault.TooNested) ↔ (17 ≤ length self.old.journal.levels) }
+        ensures nested { (result ≡ Err TxnFault.TooNested) ↔ (MOST_OPEN ≤ length self.old.journal.levels) }
         ensures err { OnErr result (self.new ≡ self.old) }
     {
-        if self.levels.len() >= DEEPEST {
+        if self.levels.len() >= MOST_OPEN {
             return Err(TxnFault::TooNested);
         }
         begin(alloc, &mut self.levels)?;

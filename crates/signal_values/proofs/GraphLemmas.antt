@@ -6,7 +6,7 @@ use Rattle.std.proofs.lemmas.Option.{slice_get_within}
 use Rattle.links_core.specs.Lists.{list_at}
 use Rattle.signal_rules.specs.Meaning.{Meaning}
 use Rattle.signal_rules.specs.Values.HasValue.{atom}
-use Rattle.signal_edges.specs.Edges.{Feeds}
+use Rattle.signal_values.specs.Edges.{Feeds}
 use Rattle.signal_values.specs.declared.cells.Row.{Row}
 use Rattle.signal_values.specs.Cells.{IsFresh, HaveAtoms, Serves, IsCurrent, IsGraph}
 use Rattle.signal_values.specs.Kept.{IsConnected, HasRun}

@@ -1,3 +1,5 @@
+mod RowLemmas
+mod WiredLemmas
 mod MarkLemmas
 mod ListLemmas
 mod AtomLemmas

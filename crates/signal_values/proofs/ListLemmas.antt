@@ -6,9 +6,9 @@ use Rattle.std.specs.Prelude.{Result, Ok, Err, IfOk, OnErr}
 use Rattle.std.proofs.lemmas.List.{take_more, length-set}
 use Rattle.std.proofs.lemmas.List.Elements.{Contains-append_left, Contains-push_cases, Contains-push}
 use Rattle.links_core.specs.Lists.{list_at}
-use Rattle.signal_edges.specs.Edges.{Feeds}
-use Rattle.signal_edges.proofs.RowLemmas.{push_cases, push_has, push_keeps}
+use Rattle.signal_values.specs.Edges.{Feeds}
 use Rattle.signal_values.specs.Kept.{IsConnected}
+use Rattle.signal_values.proofs.RowLemmas.{push_cases, push_has, push_keeps}
 
 pub get_keep : {X : Type 0} (xs : List X) (x y : X) (i : ℕ) → slice_get xs i ≡ Some y → slice_get (xs ++ x ∷ []) i ≡ Some y
 get_keep [] x y i h = absurd (cc)

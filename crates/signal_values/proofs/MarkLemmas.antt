@@ -4,11 +4,11 @@ use Rattle.std.proofs.lemmas.List.{length-set, length-map}
 use Rattle.std.proofs.lemmas.Option.{slice_get_within}
 use Rattle.links_core.specs.Lists.{list_at, without, first_of}
 use Rattle.links_core.proofs.Members.{first_in_list, none_in_nil}
-use Rattle.signal_edges.specs.Edges.{Feeds}
-use Rattle.signal_edges.proofs.RowLemmas.{in_without, to_without}
+use Rattle.signal_values.specs.Edges.{Feeds}
 use Rattle.signal_values.specs.Cells.{IsFresh}
 use Rattle.signal_values.specs.Marks.{AreAlive, Hangs, IsMarking, IsMarked}
 use Rattle.signal_values.specs.Marks.Hangs.{child, deeper}
+use Rattle.signal_values.proofs.RowLemmas.{in_without, to_without}
 
 -- how many rows are fresh
 unfoldable pub fresh_count : List Bool → ℕ

@@ -14,7 +14,7 @@ use Rattle.signal_rules.specs.Values.{HasValue, Meets}
 use Rattle.signal_rules.specs.Values.HasValue.{atom}
 use Rattle.signal_rules.specs.Values.Meets.{itself, through}
 use Rattle.signal_rules.proofs.ValueLemmas.{DiffersAt, Stays, stays}
-use Rattle.signal_edges.specs.Edges.{Feeds}
+use Rattle.signal_values.specs.Edges.{Feeds}
 use Rattle.signal_values.specs.declared.cells.Row.{Row}
 use Rattle.signal_values.specs.declared.cells.Cells.{Cells}
 use Rattle.signal_values.specs.Cells.{IsFresh, HaveAtoms, IsCurrent, IsGraph, IsSound, atoms_of}

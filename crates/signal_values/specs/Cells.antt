@@ -6,7 +6,7 @@ use Rattle.std.specs.List.{find}
 use Rattle.std.specs.BTreeMap.{BTreeMap, get}
 use Rattle.signal_rules.specs.Meaning.{Meaning}
 use Rattle.signal_rules.specs.Values.{by_rank, HasValue, Meets}
-use Rattle.signal_edges.specs.Edges.{Feeds}
+use Rattle.signal_values.specs.Edges.{Feeds}
 use Rattle.signal_values.specs.declared.cells.Row.{Row}
 use Rattle.signal_values.specs.declared.cells.Cells.{Cells}
 

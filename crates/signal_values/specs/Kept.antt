@@ -5,7 +5,7 @@ use Rattle.std.specs.BTreeMap.{get, Updates}
 use Rattle.links_core.specs.Lists.{list_at}
 use Rattle.signal_rules.specs.Meaning.{Meaning}
 use Rattle.signal_rules.specs.Values.{HasValue, Meets}
-use Rattle.signal_edges.specs.Edges.{Feeds}
+use Rattle.signal_values.specs.Edges.{Feeds}
 use Rattle.signal_values.specs.declared.cells.Row.{Row}
 use Rattle.signal_values.specs.declared.cells.Cells.{Cells}
 use Rattle.signal_values.specs.Cells.{IsFresh, IsSound, Serves, IsPassed, atoms_of, row_of}

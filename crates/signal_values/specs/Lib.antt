@@ -1,3 +1,5 @@
+pub mod Edges
+pub mod Wired
 pub mod Cells
 pub mod Marks
 pub mod Kept

@@ -1,7 +1,7 @@
 -- What becomes stale where a row changes.
 use Rattle.std.specs.Prelude.{◌≡◌, ℕ, Bool, List, [], length}
 use Rattle.links_core.specs.Lists.{list_at}
-use Rattle.signal_edges.specs.Edges.{Feeds}
+use Rattle.signal_values.specs.Edges.{Feeds}
 use Rattle.signal_values.specs.Cells.{IsFresh}
 
 -- edges lead to fresh rows

@@ -1,5 +1,5 @@
 //! Rows by key.
-use signal_edges::Edges;
+use crate::edges::Edges;
 use std::collections::BTreeMap;
 
 /// A key with its last value.

@@ -2,7 +2,7 @@
 ghost use Rattle.std.specs.Prelude.{◌≡◌, ◌<◌, ◌≤◌, length};
 ghost use Rattle.signal_values.specs.Marks.{AreAlive, IsMarked};
 
-use signal_edges::Edges;
+use crate::edges::Edges;
 
 // Makes all rows stale that hang on one, and takes away the edges into them.
 pub(crate) fn mark(edges: &mut Edges, fresh: &mut Vec<bool>, on: usize)

@@ -6,8 +6,8 @@ ghost use Rattle.signal_values.specs.Kept.{IsAdded, IsSame, IsConnected, IsRenew
 ghost use Rattle.signal_values.specs.Cells.{IsIndex};
 
 use crate::cells::{Cells, Row};
+use crate::edges::Edges;
 use rooms_val::Mem;
-use signal_edges::Edges;
 
 // The row of a key.
 pub(crate) fn find<K: Ord, V>(cells: &Cells<K, V>, key: &K) -> Option<usize>

@@ -5,11 +5,11 @@ ghost use Rattle.signal_values.specs.Cells.{row_of, atoms_of};
 ghost use Rattle.signal_values.specs.Kept.{IsFreshKey};
 
 use crate::cells::Cells;
+use crate::edges::Edges;
 use crate::rows::find;
 use crate::run::{atom_row, refresh};
 use crate::write::{change, write};
 use rooms_val::{Mem, Steps};
-use signal_edges::Edges;
 use signal_rules::Rules;
 use std::alloc::Global;
 use std::collections::BTreeMap;

@@ -4,3 +4,6 @@ pub mod QueryLemmas
 pub mod PartLemmas
 pub mod WalkLemmas
 pub mod BoxLemmas
+pub mod InsertionLemmas
+pub mod ListingLemmas
+pub mod EditLemmas

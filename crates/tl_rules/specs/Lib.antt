@@ -10,3 +10,6 @@ pub mod Exact
 pub mod Lawful
 pub mod Atoms
 pub mod Walks
+pub mod Listings
+pub mod ListLaws
+pub mod Parts

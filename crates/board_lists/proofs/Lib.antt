@@ -1,3 +1,0 @@
-pub mod InsertionLemmas
-pub mod ListingLemmas
-pub mod PartsLemmas

@@ -1,5 +1,0 @@
-use Rattle.std.proofs.Common.{◌≡◌, ◌++◌, take}
-use Rattle.board_lists.proofs.edits.add_copies.Given as goal
-
-abbrev pub invariant-ids : goal.invariant-ids
-invariant-ids l = l.items.items ≡ l.initial.items.items ++ take l.id-index l.ids

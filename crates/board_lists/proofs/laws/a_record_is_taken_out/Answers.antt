@@ -1,5 +1,0 @@
-use Rattle.board_lists.proofs.ListingLemmas.{taken_out}
-use Rattle.board_lists.proofs.laws.a_record_is_taken_out.Goals as goal
-
-pub returns : goal.returns
-returns c = λ l m id d owner n rising there is point. taken_out l m id d owner rising there n is point

@@ -1,5 +1,0 @@
-use Rattle.board_lists.proofs.ListingLemmas.{stays}
-use Rattle.board_lists.proofs.laws.unmoved_records_stay.Goals as goal
-
-pub returns : goal.returns
-returns c = λ l m id d e owner rising there owners places. stays l m id d owner rising there e owners places

@@ -1,3 +1,0 @@
-pub mod Listings
-pub mod Laws
-pub mod Parts
