@@ -4,3 +4,4 @@ pub mod Ids
 pub mod Journals
 pub mod Applied
 pub mod Fullness
+pub mod Checked

@@ -3,3 +3,4 @@ pub mod Slots
 pub mod Tree
 pub mod Journal
 pub mod Kept
+pub mod Checking

@@ -15,4 +15,4 @@ pub mod store;
 pub use map_doc::MapDoc;
 pub use rooms_val::TxnFault;
 pub use step::{apply, step_record};
-pub use store::DocStore;
+pub use store::{DocStore, MOST_OPEN};

@@ -6,14 +6,11 @@ ghost use Rattle.field_ops.specs.View.{maybe_data};
 use crate::journal;
 use crate::journal::Entry;
 use crate::slots::Slots;
-use crate::store::DocStore;
+use crate::store::{DocStore, MOST_OPEN};
 use rooms_val::{Mem, Steps, Text, TxnFault, Val};
 use std::alloc::Global;
 use std::marker::Model;
 use std::sync::ledger::Ledger;
-
-/// How many transactions may be open.
-const DEEPEST: usize = 16;
 
 /// A store that holds records and nothing else. A look-up and a write cost a logarithm of the number of records, a write in
 /// a transaction also a copy of the record that stood there, and an abort what was written. Contracts see its records and those at which the open transactions began, newest first.
@@ -98,7 +95,7 @@ impl DocStore for MapDoc {
     }
 
     fn begin(&mut self) -> Result<(), TxnFault> {
-        if self.depth >= DEEPEST {
+        if self.depth >= MOST_OPEN {
             return Err(TxnFault::TooNested);
         }
         journal::begin(&mut self.journal)?;

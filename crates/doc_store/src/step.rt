@@ -5,10 +5,11 @@ ghost use Rattle.rooms_val.specs.Maps.{added};
 ghost use Rattle.field_ops.specs.View.{maybe_data};
 ghost use Rattle.field_ops.specs.ViewRecordOps.{change_of, maybe_change};
 ghost use Rattle.field_ops.specs.Patched.{raw};
-ghost use Rattle.schema_core.specs.Admits.{is_admitted};
 ghost use Rattle.schema_core.specs.SchemaOf.{schema_tree};
 ghost use Rattle.doc_model.specs.Documents.{acts_on, left_on, step, step_at};
 ghost use Rattle.doc_model.specs.Inverses.{inverse_diff, inverse_of_op};
+ghost use Rattle.doc_store.specs.Checking.{admits_by};
+ghost use Rattle.doc_store.specs.declared.store.TheConstants.{MOST_OPEN};
 
 use crate::store::DocStore;
 use field_ops::{Diff, RecordOp, apply_record, inverse};
@@ -18,25 +19,27 @@ use std::alloc::Global;
 use std::sync::ledger::Ledger;
 
 /// Applies a diff: a put acts always, a remove where the record is there, and a patch where it leaves a record that the
-/// schema admits. Answers the diff that undoes what acted. It counts at most a step for each operation. `TooNested` exactly
-/// where 16 transactions are open, or `OutOfMemory`; then the records are as before.
+/// schema admits; where the diff is checked, wherever it leaves a record. Answers the diff that undoes what acted. It counts
+/// at most a step for each operation. `TooNested` exactly where 16 transactions are open, or `OutOfMemory`; then the records
+/// are as before.
 pub fn apply<D: DocStore, L: Ledger>(
     alloc: Global,
     store: &mut D,
     schema: &Schema,
+    checked: bool,
     diff: &Diff,
     steps: &mut Steps<L>,
 ) -> Result<Diff, TxnFault>
-    ensures ok { OnOk result (D.records store.new ≡ step (is_admitted (schema_tree schema.now)) (D.records store.old) diff.now) }
-    ensures back { IfOk result (λ back. back ≡ inverse_diff (is_admitted (schema_tree schema.now)) (D.records store.old) diff.now) }
-    ensures nested { (result ≡ Err TxnFault.TooNested) ↔ (16 ≤ length (D.begun store.old)) }
+    ensures ok { OnOk result (D.records store.new ≡ step (admits_by checked (schema_tree schema.now)) (D.records store.old) diff.now) }
+    ensures back { IfOk result (λ back. back ≡ inverse_diff (admits_by checked (schema_tree schema.now)) (D.records store.old) diff.now) }
+    ensures nested { (result ≡ Err TxnFault.TooNested) ↔ (MOST_OPEN ≤ length (D.begun store.old)) }
     ensures err { OnErr result (D.records store.new ≡ D.records store.old) }
     ensures begun { D.begun store.new ≡ D.begun store.old }
     ensures rest { D.rest store.new ≡ D.rest store.old }
     ensures ticks { steps.new ≤ steps.old + length diff.now }
 {
     store.begin()?;
-    match apply_each(alloc, store, schema, diff, steps) {
+    match apply_each(alloc, store, schema, checked, diff, steps) {
         Ok(back) => {
             store.commit();
             Ok(back)
@@ -53,18 +56,19 @@ fn apply_each<D: DocStore, L: Ledger>(
     alloc: Global,
     store: &mut D,
     schema: &Schema,
+    checked: bool,
     diff: &Diff,
     steps: &mut Steps<L>,
 ) -> Mem<Diff>
-    ensures ok { OnOk result (D.records store.new ≡ step (is_admitted (schema_tree schema.now)) (D.records store.old) diff.now) }
-    ensures back { IfOk result (λ back. back ≡ inverse_diff (is_admitted (schema_tree schema.now)) (D.records store.old) diff.now) }
+    ensures ok { OnOk result (D.records store.new ≡ step (admits_by checked (schema_tree schema.now)) (D.records store.old) diff.now) }
+    ensures back { IfOk result (λ back. back ≡ inverse_diff (admits_by checked (schema_tree schema.now)) (D.records store.old) diff.now) }
     ensures begun { D.begun store.new ≡ D.begun store.old }
     ensures rest { D.rest store.new ≡ D.rest store.old }
     ensures ticks { steps.new ≤ steps.old + length diff.now }
 {
     let mut back = Diff::new(alloc);
     'ids: for (id, op) in diff.as_slice() {
-        let undo = apply_one(alloc, store, schema, id, op, steps)?;
+        let undo = apply_one(alloc, store, schema, checked, id, op, steps)?;
         keep(alloc, &mut back, id, undo)?;
     }
     Ok(back)
@@ -75,18 +79,19 @@ fn apply_one<D: DocStore, L: Ledger>(
     alloc: Global,
     store: &mut D,
     schema: &Schema,
+    checked: bool,
     id: &Text,
     op: &RecordOp,
     steps: &mut Steps<L>,
 ) -> Mem<Option<RecordOp>>
-    ensures ok { OnOk result (D.records store.new ≡ step_at (is_admitted (schema_tree schema.now)) (D.records store.old) id.now (change_of op.now)) }
-    ensures back { IfOk result (λ undo. maybe_change undo ≡ inverse_of_op (is_admitted (schema_tree schema.now)) (D.records store.old) id.now (change_of op.now)) }
+    ensures ok { OnOk result (D.records store.new ≡ step_at (admits_by checked (schema_tree schema.now)) (D.records store.old) id.now (change_of op.now)) }
+    ensures back { IfOk result (λ undo. maybe_change undo ≡ inverse_of_op (admits_by checked (schema_tree schema.now)) (D.records store.old) id.now (change_of op.now)) }
     ensures begun { D.begun store.new ≡ D.begun store.old }
     ensures rest { D.rest store.new ≡ D.rest store.old }
     ensures ticks { steps.new ≤ steps.old + 1 }
 {
     let before = store.get(id.as_str());
-    let left = step_record(alloc, schema, id.as_str(), before, op)?;
+    let left = step_record(alloc, schema, checked, id.as_str(), before, op)?;
     match left {
         Some(after) => {
             let undo = inverse(alloc, before, op)?;
@@ -98,19 +103,20 @@ fn apply_one<D: DocStore, L: Ledger>(
 }
 
 /// What an operation leaves of the record under an id, or of the lack of one: a record or none. `None` exactly where the
-/// operation is passed over, as a remove of no record, and a patch that leaves no record that the schema admits. It costs
-/// the record and the operation.
+/// operation is passed over, as a remove of no record, and a patch that leaves no record that the schema admits, or none at
+/// all where it is checked. It costs the record and the operation.
 pub fn step_record(
     alloc: Global,
     schema: &Schema,
+    checked: bool,
     id: &str,
     record_: Option<&Val>,
     op: &RecordOp,
 ) -> Mem<Option<Option<Val>>>
-    ensures { IfOk result (λ left. option_map maybe_data left ≡ left_on (is_admitted (schema_tree schema.now)) id.now (change_of op.now) (maybe_data (option_copied record_.entry))) }
+    ensures { IfOk result (λ left. option_map maybe_data left ≡ left_on (admits_by checked (schema_tree schema.now)) id.now (change_of op.now) (maybe_data (option_copied record_.entry))) }
 {
     let after = apply_record(alloc, record_, op)?;
-    if acts(schema, id, record_, &after, op) {
+    if acts(schema, checked, id, record_, &after, op) {
         Ok(Some(after))
     } else {
         Ok(None)
@@ -118,15 +124,22 @@ pub fn step_record(
 }
 
 // Whether an operation acts that makes one record of another.
-fn acts(schema: &Schema, id: &str, before: Option<&Val>, after: &Option<Val>, op: &RecordOp) -> bool
+fn acts(
+    schema: &Schema,
+    checked: bool,
+    id: &str,
+    before: Option<&Val>,
+    after: &Option<Val>,
+    op: &RecordOp,
+) -> bool
     requires { maybe_data after.now ≡ raw (change_of op.now) (maybe_data (option_copied before)) }
-    ensures { result ≡ acts_on (is_admitted (schema_tree schema.now)) id.now (change_of op.now) (maybe_data (option_copied before.entry)) }
+    ensures { result ≡ acts_on (admits_by checked (schema_tree schema.now)) id.now (change_of op.now) (maybe_data (option_copied before.entry)) }
 {
     match op {
         RecordOp::Put(_) => true,
         RecordOp::Remove => before.is_some(),
         RecordOp::Patch(_) => match after {
-            Some(val) => schema.admits(id, val).is_ok(),
+            Some(val) => checked || schema.admits(id, val).is_ok(),
             None => false,
         },
     }

@@ -1,9 +1,13 @@
 //! What a store of records is.
 ghost use Rattle.std.specs.Prelude.{◌≡◌, ◌≢◌, ◌+◌, ◌≤◌, ◌↔◌, [], ◌∷◌, length, map, IfOk, OnOk, OnErr, option_map};
+ghost use Rattle.doc_store.specs.declared.store.TheConstants.{MOST_OPEN};
 
 use rooms_val::{Mem, Steps, Text, TxnFault, Val};
 use std::alloc::Global;
 use std::sync::ledger::Ledger;
+
+/// How many transactions of a store may be open.
+pub const MOST_OPEN: usize = 16;
 
 /// Records by id, with transactions that nest up to 16 deep.
 pub trait DocStore {
@@ -55,7 +59,7 @@ pub trait DocStore {
     /// record.
     fn begin(&mut self) -> Result<(), TxnFault>
         ensures ok { OnOk result (begun self.new ≡ records self.old ∷ begun self.old) }
-        ensures nested { (result ≡ Err TxnFault.TooNested) ↔ (16 ≤ length (begun self.old)) }
+        ensures nested { (result ≡ Err TxnFault.TooNested) ↔ (MOST_OPEN ≤ length (begun self.old)) }
         ensures err { OnErr result (begun self.new ≡ begun self.old) }
         ensures records { records self.new ≡ records self.old }
         ensures rest { rest self.new ≡ rest self.old };

@@ -95,9 +95,9 @@ fn applied_in<L: Ledger>(
     ensures { store.new.1 ≡ store.old.1 }
 {
     let mut steps = Steps::<L>::new(blank);
-    let back = apply(alloc, store, schema, diff, &mut steps)?;
-    drop(apply(alloc, store, schema, &back, &mut steps)?);
-    apply(alloc, store, schema, diff, &mut steps)
+    let back = apply(alloc, store, schema, false, diff, &mut steps)?;
+    drop(apply(alloc, store, schema, false, &back, &mut steps)?);
+    apply(alloc, store, schema, false, diff, &mut steps)
 }
 
 // Applies a diff and what undoes it, and then the diff again. The steps are counted for nobody.

@@ -5,18 +5,18 @@ use Rattle.field_ops.specs.ViewRecordOps.{change_of, changes_view, maybe_change}
 use Rattle.field_ops.proofs.SoundLemmas.{rising_records}
 use Rattle.field_ops.proofs.WalkLemmas.{Going, going_first, going_next, going_done}
 use Rattle.rooms_val.proofs.ListLemmas.{one_off}
-use Rattle.schema_core.specs.Admits.{is_admitted}
 use Rattle.schema_core.specs.SchemaOf.{schema_tree}
 use Rattle.doc_model.specs.Documents.{step}
 use Rattle.doc_model.specs.Inverses.{inverse_diff}
 use Rattle.doc_model.specs.Inverses.{inverse_on}
 use Rattle.doc_model.proofs.InverseLemmas.{rising-inverse_diff}
+use Rattle.doc_store.specs.Checking.{admits_by}
 use Rattle.doc_store.proofs.Applied.{Untouched, untouched_here, untouched_next, gives, gives_all}
 use Rattle.doc_store.proofs.step.apply_each.Goals as goal
 
 pub ids-init : goal.ids-init
 ids-init g c =
-    let admits = is_admitted (schema_tree c.args.schema.now) in
+    let admits = admits_by c.args.checked (schema_tree c.args.schema.now) in
     let m = g.D.DocStore.records c.args.store.now in
     let s = c.as_slice-id-items.result.now in
     let seen = c.as_slice-id-items.ensures.pairs in
@@ -33,7 +33,7 @@ ids-init g c =
 
 pub ids-preserved : goal.ids-preserved
 ids-preserved g c =
-    let admits = is_admitted (schema_tree c.args.schema.now) in
+    let admits = admits_by c.args.checked (schema_tree c.args.schema.now) in
     let first = g.D.DocStore.records c.args.store.now in
     let now = g.D.DocStore.records c.ids.store in
     let s = c.as_slice-id-items.result.now in
@@ -59,6 +59,6 @@ ids-preserved g c =
 
 pub returns-clause-back : goal.returns-clause-back
 returns-clause-back g c =
-    let admits = is_admitted (schema_tree c.args.schema.now) in
+    let admits = admits_by c.args.checked (schema_tree c.args.schema.now) in
     let m = g.D.DocStore.records c.args.store.now in
     going_done (gives admits m) (inverse_diff admits m c.args.diff.now) c.as_slice-id-items.result.now c.ids.id-index c.ids.back (rising-inverse_diff admits m c.args.diff.now) (omega arith) c.ids.invariant.back
