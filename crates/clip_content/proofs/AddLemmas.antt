@@ -20,13 +20,14 @@ use Rattle.shape_tree.specs.Trees.{children}
 use Rattle.side_effects.specs.ReachingLaws.{IsIn}
 use Rattle.side_effects.specs.Records.{has}
 use Rattle.side_effects.proofs.FilterLemmas.{rising-filter, is_in-keys}
+use Rattle.side_effects.proofs.PlacingLemmas.{and_first as and_one}
 use Rattle.room_model.specs.Clips.{ClipTree, TargetTree}
 use Rattle.clip_content.specs.Copied.{is_one_of, is_copied, is_within, copied, first_missing, first_again, is_too_much, if_few, taken, shapes_under}
 use Rattle.clip_content.specs.Pasted.{new_id, new_shape, new_binding, new_ids, first_taken, put_each, puts, pasted_shape, pasted_binding, pasted_shapes, pasted_bindings, indices_of, tops}
 use Rattle.clip_content.specs.Laws.{IsPaste, Adds, added}
 use Rattle.room_model.specs.declared.clip_fault.ClipFault.{ClipFault}
 use Rattle.room_model.specs.declared.clip_fault.ClipFault.TheVariants.{NoShape, Doubled, TooMany}
-use Rattle.clip_content.proofs.ChildLemmas.{IsAt, each_at, and_one, apart, clip_is_shape, children_copied}
+use Rattle.clip_content.proofs.ChildLemmas.{IsAt, each_at, apart, clip_is_shape, children_copied}
 use Rattle.clip_content.proofs.PlaceLemmas.{new_below}
 use Rattle.clip_content.proofs.TopLemmas.{Each, each-weaker}
 

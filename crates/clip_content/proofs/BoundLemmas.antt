@@ -7,13 +7,14 @@ use Rattle.rooms_val.specs.Kinds.{as_map}
 use Rattle.rooms_val.specs.Maps.{ties}
 use Rattle.shape_tree.specs.Records.{is_binding}
 use Rattle.side_effects.specs.Records.{from_of, to_of, has}
+use Rattle.side_effects.proofs.PlacingLemmas.{and_first as and_one, and_second as and_two}
 use Rattle.shape_tree.specs.Trees.{bound}
 use Rattle.room_model.specs.Clips.{ClipTree, TargetTree, is_prefix}
 use Rattle.clip_content.specs.Copied.{is_within}
 use Rattle.clip_content.specs.Pasted.{new_shape, new_binding, with_field, pasted_binding, pasted_bindings}
 use Rattle.clip_content.proofs.FieldLemmas.{IsMap, map_kept, text_set, text_kept, no_field}
 use Rattle.clip_content.proofs.IdLemmas.{new_binding_id}
-use Rattle.clip_content.proofs.ChildLemmas.{new_ties, filter_map, and_one, and_two}
+use Rattle.clip_content.proofs.ChildLemmas.{new_ties, filter_map}
 use Rattle.clip_content.proofs.TopLemmas.{Each, each-weaker}
 
 same_ties : (a b c d : List ℕ) → ties a b ≡ ties c d → bytes_eq a b ≡ bytes_eq c d

@@ -19,6 +19,7 @@ use Rattle.clip_content.specs.Pasted.{new_shape, is_top, with_place, moved_by, p
 use Rattle.clip_content.proofs.CopyLemmas.{copied_closed}
 use Rattle.clip_content.proofs.FieldLemmas.{IsMap, map_kept, text_kept, no_field, placed_map, placed_parent, placed_index, moved_map}
 use Rattle.side_effects.proofs.FilterLemmas.{at-filter, kept_at}
+use Rattle.side_effects.proofs.PlacingLemmas.{and_first as and_one, and_second as and_two}
 use Rattle.clip_content.proofs.IdLemmas.{new_shape_id}
 use Rattle.clip_content.proofs.PlaceLemmas.{new_order}
 use Rattle.clip_content.proofs.TopLemmas.{Each, each-weaker, each-filter, each-in_order}
@@ -75,14 +76,6 @@ module _ {X : Type 0} (cmp : X → X → Ordering) (h : X → X) (Is : X → Typ
   pub in_order_under : (xs : List X) → Each Is xs → in_order cmp (map h xs) ≡ map h (in_order cmp xs)
   in_order_under [] each = refl
   in_order_under (x ∷ xs) each = ap (inserted cmp (h x)) (in_order_under xs each.1) ∙ inserted_under x (in_order cmp xs) each.0 (each-in_order Is cmp xs each.1)
-
-pub and_one : (a b : Bool) → (a && b) ≡ true → a ≡ true
-and_one true b is = refl
-and_one false b is = is
-
-pub and_two : (a b : Bool) → (a && b) ≡ true → b ≡ true
-and_two true b is = is
-and_two false b is = absurd (let never : false ≡ true = is in (cc))
 
 not_true : (b : Bool) → not b ≡ true → b ≡ false
 not_true true is = sym is

@@ -10,15 +10,12 @@ use Rattle.side_effects.specs.Reaching.{reaches}
 use Rattle.side_effects.specs.ReachingLaws.{IsIn, AreAll, IsClosed}
 use Rattle.side_effects.specs.Records.{parent_of}
 use Rattle.side_effects.specs.Whole.{parent_at, parents}
-use Rattle.side_effects.proofs.ReachingLemmas.{closed_below, has_ends, within}
+use Rattle.side_effects.proofs.ReachingLemmas.{closed_below, has_ends, within, or_left as or_true, or_false as or_none}
 use Rattle.side_effects.proofs.FilterLemmas.{is_in-keys}
 use Rattle.clip_content.specs.Copied.{is_one_of, is_copied}
 
 -- steps of a walk up the parents
 module _ {X : Type 0} (up : X → List X) (is_end : X → Bool) where
-  or_true : (a b : Bool) → a ≡ true → (a || b) ≡ true
-  or_true a b is = ap (λ x. x || b) is
-
   pub reach_here : (n : ℕ) (x : X) → is_end x ≡ true → reaches up is_end n x ≡ true
   unfolding reaches
   reach_here zero x is = is
@@ -27,10 +24,6 @@ module _ {X : Type 0} (up : X → List X) (is_end : X → Bool) where
   pub reach_none : (x : X) → reaches up is_end 0 x ≡ is_end x
   unfolding reaches
   reach_none x = refl
-
-  or_none : (a : Bool) → (a || false) ≡ a
-  or_none true = refl
-  or_none false = refl
 
   pub reach_up : (n : ℕ) (x y : X) → is_end x ≡ false → up x ≡ y ∷ [] → reaches up is_end (suc n) x ≡ reaches up is_end n y
   unfolding reaches

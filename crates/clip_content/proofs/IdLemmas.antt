@@ -1,5 +1,5 @@
 -- New ids are ids.
-use Rattle.std.proofs.Common.{◌≡◌, ℕ, ◌/◌, ◌<◌, ◌≤◌, Bool, true, false, ◌&&◌, cond, List, ◌++◌, append_assoc, length, Some, None, nat_le, refl, ap, ◌∙◌, arith}
+use Rattle.std.proofs.Common.{◌≡◌, ℕ, ◌/◌, ◌<◌, ◌≤◌, true, false, ◌&&◌, cond, List, ◌++◌, append_assoc, length, Some, None, nat_le, refl, ap, ◌∙◌, arith}
 use Rattle.std.specs.Prelude.{nat_lt, codes}
 use Rattle.std.specs.List.{list_all}
 use Rattle.std.specs.Option.{option_map_or}
@@ -12,6 +12,7 @@ use Rattle.std.specs.Int.{is_in_range}
 use Rattle.rooms_val.specs.Data.{Pairs}
 use Rattle.record_valid.specs.Ids.{is_unique_byte, is_unique}
 use Rattle.shape_tree.specs.Records.{is_shape, is_binding}
+use Rattle.side_effects.proofs.PlacingLemmas.{and_first as and_one, and_second as and_two}
 use Rattle.clip_content.specs.Pasted.{place_in, last_digit, four_digits, new_id}
 use Rattle.room_model.specs.Clips.{is_prefix}
 
@@ -23,14 +24,6 @@ digit_unique n = or_left _ _ (or_left _ _ (or_left _ _ (in_digits (last_digit n)
 
 digits_unique : (n : ℕ) → list_all is_unique_byte (four_digits n) ≡ true
 digits_unique n = and_from _ _ (digit_unique (n / 1000)) (and_from _ _ (digit_unique (n / 100)) (and_from _ _ (digit_unique (n / 10)) (and_from _ _ (digit_unique n) refl)))
-
-and_one : (a b : Bool) → (a && b) ≡ true → a ≡ true
-and_one true b is = refl
-and_one false b is = is
-
-and_two : (a b : Bool) → (a && b) ≡ true → b ≡ true
-and_two true b is = is
-and_two false b is = absurd (let never : false ≡ true = is in (cc))
 
 le_from_test : (m n : ℕ) → nat_le m n ≡ true → m ≤ n
 le_from_test m n test = grind (arith, nat_tests)

@@ -14,7 +14,7 @@ use Rattle.field_ops.specs.RecordOps.{RecordOps}
 use Rattle.doc_model.specs.Documents.{fold_raw}
 use Rattle.side_effects.specs.ReachingLaws.{IsIn, AreAll}
 use Rattle.side_effects.specs.Reaching.{reaches}
-use Rattle.side_effects.proofs.ReachingLemmas.{enough, climb, raised, raised_is, any_imp, or_left}
+use Rattle.side_effects.proofs.ReachingLemmas.{enough, climb, raised, raised_is, any_imp, or_left, or_false as or_none}
 use Rattle.shape_tree.specs.Records.{is_shape}
 use Rattle.side_effects.specs.Records.{parent_of}
 use Rattle.side_effects.specs.Whole.{parent_at, parents, meets_within, meets_itself}
@@ -56,10 +56,6 @@ module _ (m : Pairs) (id : List ℕ) where
   pub record IsOnWay (steps : ℕ) (next : Option (List ℕ)) : Type 0 where
     pub rest : (n : ℕ) → meets_within (steps + n) m id ≡ chain_from n next
     pub none : (n : ℕ) → n < steps → meets_within n m id ≡ false
-
-  or_none : (a : Bool) → (a || false) ≡ a
-  or_none true = refl
-  or_none false = refl
 
   pub at_start : IsOnWay 0 (parent_at m id)
   at_start = record {

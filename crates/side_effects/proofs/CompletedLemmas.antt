@@ -21,26 +21,18 @@ use Rattle.side_effects.specs.declared.fault.EditFault.{EditFault}
 use Rattle.side_effects.specs.declared.fault.EditFault.TheVariants.{TooMany, WrongScope}
 use Rattle.side_effects.proofs.RemovesLemmas.{removed_is, all_removed, rising-all_removed}
 use Rattle.side_effects.proofs.GoesLemmas.{goes_within}
-use Rattle.side_effects.proofs.PlacingLemmas.{rising-placed}
-
-and_first : (a b : Bool) → (a && b) ≡ true → a ≡ true
-and_first true b is = refl
-and_first false b is = is
-
-and_second : (a b : Bool) → (a && b) ≡ true → b ≡ true
-and_second true b is = is
-and_second false b is = absurd (let no : false ≡ true = is in (cc))
+use Rattle.side_effects.proofs.PlacingLemmas.{rising-placed, and_first, and_second}
 
 and_both : (a b : Bool) → a ≡ true → b ≡ true → (a && b) ≡ true
 and_both a b one two = ap (λ x. x && b) one ∙ two
 
-not_err : {A : Type 0} (fault : EditFault) (x : A) → ◌≡◌ {A = Result A EditFault} (Err fault) (Ok x) → ⊥
+pub not_err : {A : Type 0} (fault : EditFault) (x : A) → ◌≡◌ {A = Result A EditFault} (Err fault) (Ok x) → ⊥
 not_err fault x is = cc
 
-same_ok : {A : Type 0} (x y : A) → ◌≡◌ {A = Result A EditFault} (Ok x) (Ok y) → x ≡ y
+pub same_ok : {A : Type 0} (x y : A) → ◌≡◌ {A = Result A EditFault} (Ok x) (Ok y) → x ≡ y
 same_ok x y is = cc
 
-and_then_ok : {A B : Type 0} (answer : Result A EditFault) (next : A → Result B EditFault) (y : B) → and_then answer next ≡ Ok y → (x : A) × (answer ≡ Ok x) × (next x ≡ Ok y)
+pub and_then_ok : {A B : Type 0} (answer : Result A EditFault) (next : A → Result B EditFault) (y : B) → and_then answer next ≡ Ok y → (x : A) × (answer ≡ Ok x) × (next x ≡ Ok y)
 and_then_ok (Ok x) next y is = (x, refl, is)
 and_then_ok (Err fault) next y is = absurd (not_err fault y is)
 
@@ -152,10 +144,12 @@ module _ (s : SchemaTree) (m : Pairs) (wanted diff : RecordOps) (is : completed 
   pub record Came : Type 0 where
     pub filled : RecordOps
     pub scoped : first_refusal (wrong_scope s) wanted ≡ None
+    pub there : first_refusal (no_record m) wanted ≡ None
+    pub valid : first_refusal (invalid s m) (placed m wanted) ≡ None
     pub placed_all : all_placed s m (placed m wanted) (unplaced m wanted) ≡ Ok filled
     pub removed_all : with_removes m filled ≡ diff
 
-  came : Came
+  pub came : Came
   came =
       let few = cond_ok (nat_lt 8192 (length wanted)) (and_then (indexed s m wanted) (λ d. unless (not_whole m wanted (with_removes m d)) (if_few (with_removes m d)))) diff is in
       let found = and_then_ok (indexed s m wanted) (λ d. unless (not_whole m wanted (with_removes m d)) (if_few (with_removes m d))) diff few in
@@ -166,6 +160,8 @@ module _ (s : SchemaTree) (m : Pairs) (wanted diff : RecordOps) (is : completed 
       record {
         filled = found.0;
         scoped = scope.0;
+        there = scope.1;
+        valid = named.1;
         placed_all = fits.1;
         removed_all = same_ok (with_removes m found.0) diff (cond_ok (nat_lt 8192 (length (with_removes m found.0))) (Ok (with_removes m found.0)) diff whole.1);
       }

@@ -11,7 +11,7 @@ use Rattle.field_ops.specs.RecordOps.{remove, RecordOps}
 use Rattle.doc_model.specs.Documents.{fold_raw}
 use Rattle.side_effects.specs.ReachingLaws.{IsIn, AreAll, IsClosed}
 use Rattle.side_effects.specs.Reaching.{reaches}
-use Rattle.side_effects.proofs.ReachingLemmas.{alone, closed_below, has_ends, within}
+use Rattle.side_effects.proofs.ReachingLemmas.{alone, closed_below, has_ends, within, iff_same as same_tests}
 use Rattle.shape_tree.specs.Records.{text_or_empty, is_shape, is_binding}
 use Rattle.side_effects.specs.Records.{holders_of, has}
 use Rattle.side_effects.specs.Removed.{removes, holders, goes, with_removes}
@@ -119,11 +119,6 @@ module _ (m after : Pairs) where
     | true ↦ λ there. inl (is_in-keys m q there)
     | false ↦ λ _. inr refl
   ] refl
-
-same_tests : (a b : Bool) → (a ≡ true → b ≡ true) → (b ≡ true → a ≡ true) → a ≡ b
-same_tests true b there back = sym (there refl)
-same_tests false true there back = back refl
-same_tests false false there back = refl
 
 module _ (m : Pairs) (diff : RecordOps) where
   abbrev up_from : List ℕ → List (List ℕ)

@@ -1,21 +1,16 @@
 -- The first refusal of a rule is that of the least id that it refuses.
-use Rattle.std.proofs.Common.{◌≡◌, ℕ, true, false, cond, T, List, [], ◌∷◌, Option, Some, None, Ordering, Less, Equal, Greater, is_eq, refl, sym, ap, ◌∙◌}
+use Rattle.std.proofs.Common.{◌≡◌, ℕ, true, false, cond, T, List, [], ◌∷◌, Option, Some, None, Greater, is_eq, refl, sym, ap, ◌∙◌}
 use Rattle.std.specs.Prelude.{is_some}
 use Rattle.std.specs.Option.{option_map_or}
 use Rattle.std.specs.Ordering.{is_lt, ordering_reverse}
 use Rattle.std.specs.FinMap.Entries.{below_all}
 use Rattle.std.proofs.lemmas.Cmp.{nat_list_cmp_total}
 use Rattle.rooms_val.specs.Maps.{value_at, order, AreRising, ties}
-use Rattle.rooms_val.proofs.MapsLemmas.{first, second, ties_same, order_itself}
+use Rattle.rooms_val.proofs.MapsLemmas.{first, second, ties_same, order_itself, less}
 use Rattle.field_ops.specs.RecordOps.{RecordOpTree, RecordOps}
 use Rattle.side_effects.specs.Completed.{first_refusal}
 use Rattle.side_effects.specs.Laws.{IsLeastRefused}
 use Rattle.side_effects.specs.declared.fault.EditFault.{EditFault}
-
-less : (o : Ordering) → T (is_lt o) → o ≡ Less
-less Less h = refl
-less Equal h = absurd h
-less Greater h = absurd h
 
 -- an id that stands in rising pairs is above one that is below all of them
 above : (low other : List ℕ) (d : RecordOpTree) (diff : RecordOps) → T (below_all order low diff) → value_at diff other ≡ Some d → order other low ≡ Greater

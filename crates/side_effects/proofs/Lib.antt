@@ -11,3 +11,4 @@ pub mod PlacingLemmas
 pub mod RuleLemmas
 pub mod PageLemmas
 pub mod CompletedLemmas
+pub mod ActingLemmas

@@ -9,28 +9,16 @@ use Rattle.field_ops.specs.Laws.{raw_after}
 use Rattle.field_ops.specs.RecordOps.{RecordOpTree, put, patch, remove, RecordOps}
 use Rattle.doc_model.specs.Documents.{fold_raw}
 use Rattle.doc_model.proofs.MergeLemmas.{at-fold_raw}
-use Rattle.side_effects.proofs.ReachingLemmas.{any_in, in_any, or_cases, or_left, or_right}
+use Rattle.side_effects.proofs.ReachingLemmas.{any_in, in_any, or_cases, or_left, or_right, iff_same as same_tests}
 use Rattle.side_effects.specs.Records.{is_page, has}
 use Rattle.side_effects.specs.Removed.{is_remove}
 use Rattle.side_effects.specs.Whole.{has_page, is_page_in, last_page}
 use Rattle.side_effects.specs.declared.fault.EditFault.TheVariants.{LastPage}
 use Rattle.side_effects.proofs.FilterLemmas.{is_in-keys, keys-is_in}
-
-same_tests : (a b : Bool) → (a ≡ true → b ≡ true) → (b ≡ true → a ≡ true) → a ≡ b
-same_tests true b there back = sym (there refl)
-same_tests false true there back = back refl
-same_tests false false there back = refl
+use Rattle.side_effects.proofs.PlacingLemmas.{and_first, and_second}
 
 and_both : (a b : Bool) → a ≡ true → b ≡ true → (a && b) ≡ true
 and_both a b one two = ap (λ x. x && b) one ∙ two
-
-and_first : (a b : Bool) → (a && b) ≡ true → a ≡ true
-and_first true b is = refl
-and_first false b is = is
-
-and_second : (a b : Bool) → (a && b) ≡ true → b ≡ true
-and_second true b is = is
-and_second false b is = absurd (let no : false ≡ true = is in (cc))
 
 any_keys : {V : Type 0} (p : List ℕ → Bool) (es : List (List ℕ × V)) → list_any (λ e. p e.0) es ≡ list_any p (keys_of es)
 any_keys p [] = refl

@@ -18,11 +18,11 @@ use Rattle.side_effects.specs.declared.fault.EditFault.{EditFault}
 use Rattle.side_effects.proofs.FilterLemmas.{ties_with, rising-filter, at-filter, kept_at}
 use Rattle.side_effects.proofs.TopLemmas.{greatest_more}
 
-and_first : (a b : Bool) → (a && b) ≡ true → a ≡ true
+pub and_first : (a b : Bool) → (a && b) ≡ true → a ≡ true
 and_first true b is = refl
 and_first false b is = is
 
-and_second : (a b : Bool) → (a && b) ≡ true → b ≡ true
+pub and_second : (a b : Bool) → (a && b) ≡ true → b ≡ true
 and_second true b is = is
 and_second false b is = absurd (let no : false ≡ true = is in (cc))
 

@@ -8,6 +8,7 @@ use Rattle.side_effects.specs.Removed.{removes}
 use Rattle.side_effects.specs.Links.{Links, Sweeps}
 use Rattle.side_effects.proofs.FilterLemmas.{ties_with}
 use Rattle.side_effects.proofs.RemovesLemmas.{removed_is, removes-with_key}
+use Rattle.side_effects.proofs.ReachingLemmas.{or_left, or_right, or_cases}
 
 module _ {X : Type 0} where
   pub in_middle : (left : List X) (x : X) (rest : List X) → IsIn x (left ++ x ∷ rest)
@@ -64,17 +65,6 @@ sweeps_none all diff = record {
   part = λ l is. is;
   fewer = omega arith;
 }
-
-or_left : (a b : Bool) → a ≡ true → (a || b) ≡ true
-or_left a b is = ap (λ x. x || b) is
-
-or_right : (a b : Bool) → b ≡ true → (a || b) ≡ true
-or_right true b is = refl
-or_right false b is = is
-
-or_cases : (a b : Bool) → (a || b) ≡ true → (a ≡ true) ⊎ (b ≡ true)
-or_cases true b is = inl refl
-or_cases false b is = inr is
 
 kept_either : {A : Type 0} (a b : Bool) (gone was : A) → cond a gone (cond b gone was) ≡ cond (a || b) gone was
 kept_either true b gone was = refl
