@@ -9,11 +9,11 @@ use Rattle.tl_rules.specs.Answers.{ids_in, record_in}
 use Rattle.tl_rules.specs.declared.key.TlKey.{TlKey}
 use Rattle.tl_rules.specs.declared.key.TlKey.TheVariants as key
 use Rattle.tl_rules.specs.declared.value.TlValue.TheVariants as value
-use Rattle.board_lists.specs.declared.listing.Listing.{Listing}
-use Rattle.board_lists.specs.declared.listing.Listing.TheVariants.{Children, BoundFrom, BoundTo}
-use Rattle.board_lists.specs.Laws.{IsPlaceAmong}
-use Rattle.board_lists.specs.Listings.{owner_of, index_of, place_of, listed, key_of, is_before}
-use Rattle.board_lists.proofs.ListingLemmas.{parted, known, known_without, put_in, coming, going, taken_out, stays}
+use Rattle.tl_rules.specs.declared.listing.Listing.{Listing}
+use Rattle.tl_rules.specs.declared.listing.Listing.TheVariants.{Children, BoundFrom, BoundTo}
+use Rattle.tl_rules.specs.ListLaws.{IsPlaceAmong}
+use Rattle.tl_rules.specs.Listings.{owner_of, index_of, place_of, listed, key_of, is_before}
+use Rattle.tl_rules.proofs.ListingLemmas.{parted, known, known_without, put_in, coming, going, taken_out, stays}
 use Rattle.record_store.specs.Lists.{Board, atoms_of, records_of, place_at, HasRecords, AreLists, IsListOf, IsMoved, ChangesOnly}
 use Rattle.record_store.specs.Seen.{Keys, AreKeys}
 use Rattle.record_store.proofs.RecordLemmas.{by_same, same_records}

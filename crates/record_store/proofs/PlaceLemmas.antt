@@ -5,8 +5,8 @@ use Rattle.std.specs.List.Sorted.{IsPartitionedBy, IsPartitionPoint}
 use Rattle.std.proofs.lemmas.Option.{get_or_from_slice_get}
 use Rattle.rooms_val.specs.Data.{Data, Pairs}
 use Rattle.rooms_val.specs.Maps.{value_at}
-use Rattle.board_lists.specs.declared.listing.Listing.{Listing}
-use Rattle.board_lists.specs.Listings.{stands_before, is_before}
+use Rattle.tl_rules.specs.declared.listing.Listing.{Listing}
+use Rattle.tl_rules.specs.Listings.{stands_before, is_before}
 use Rattle.record_store.specs.Lists.{place_at}
 
 module _ {X : Type 0} (p : X → Bool) (xs : List X) where

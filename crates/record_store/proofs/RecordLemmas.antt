@@ -18,10 +18,10 @@ use Rattle.tl_rules.specs.declared.key.TlKey.{TlKey}
 use Rattle.tl_rules.specs.declared.key.TlKey.TheVariants as key
 use Rattle.tl_rules.specs.declared.value.TlValue.{TlValue}
 use Rattle.tl_rules.specs.declared.value.TlValue.TheVariants as value
+use Rattle.tl_rules.specs.declared.listing.Listing.{Listing}
+use Rattle.tl_rules.specs.declared.listing.Listing.TheVariants.{Children, BoundFrom, BoundTo}
+use Rattle.tl_rules.specs.Listings.{listed, key_of}
 use Rattle.tl_rules.proofs.BoxLemmas.{record_back}
-use Rattle.board_lists.specs.declared.listing.Listing.{Listing}
-use Rattle.board_lists.specs.declared.listing.Listing.TheVariants.{Children, BoundFrom, BoundTo}
-use Rattle.board_lists.specs.Listings.{listed, key_of}
 use Rattle.record_store.specs.Kept.{IsBoard, AreBoards}
 use Rattle.record_store.specs.Seen.{Keys, AreKeys, records_under}
 
@@ -48,6 +48,9 @@ rising-records keys a = rising-present (seen (λ k. record_in (a k)) keys)
 
 pub at_no_key : (keys : Keys) (a : TlKey → TlValue) (q : List ℕ) → value_at keys q ≡ None → value_at (records_under keys a) q ≡ None
 at_no_key keys a q is = at-records keys a q ∙ ap (λ o. held (option_map (λ k. record_in (a k)) o)) is
+
+pub at_known : (keys : Keys) (a : TlKey → TlValue) (q : List ℕ) → value_at keys q ≡ Some (key.Rec q) → value_at (records_under keys a) q ≡ record_in (a (key.Rec q))
+at_known keys a q known = at-records keys a q ∙ ap (λ o. held (option_map (λ k. record_in (a k)) o)) known
 
 held_same : (o : Option TlKey) (a b : TlKey → TlValue) → ((k : TlKey) → o ≡ Some k → a k ≡ b k) → held (option_map (λ k. record_in (a k)) o) ≡ held (option_map (λ k. record_in (b k)) o)
 held_same None a b same = refl

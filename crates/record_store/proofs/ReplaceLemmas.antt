@@ -3,6 +3,7 @@ use Rattle.std.proofs.Common.{◌≡◌, ◌⊎◌, ℕ, suc, ◌-◌, ◌<◌, 
 use Rattle.rooms_val.specs.Data.{Pairs}
 use Rattle.rooms_val.specs.Maps.{value_at, with_key}
 use Rattle.rooms_val.proofs.MapsLemmas.{order_itself, at-with_key}
+use Rattle.doc_store.specs.declared.store.TheConstants.{MOST_OPEN}
 use Rattle.signal_rules.specs.Values.{Meets}
 use Rattle.signal_values.specs.Kept.{IsFreshKey}
 use Rattle.signal_values.specs.Seen.{top}
@@ -55,7 +56,7 @@ module _ (old : Seen) (is : IsStore old) (id : List ℕ) (keys : Keys) (added : 
     now = board;
     before = subst (λ ks. AreBoards ks (begun_of txn)) (sym added) (subst (AreBoards (with_key old.keys id (key.Rec id))) (sym same) (boards_added old.keys (begun_of old.txn) id is.before));
     depth = let count : length txn.journal.levels ≡ length old.txn.journal.levels = sym (length_begun txn) ∙ ap length same ∙ length_begun old.txn in
-        subst (λ n. n ≤ 16) (sym count) is.depth;
+        subst (λ n. n ≤ MOST_OPEN) (sym count) is.depth;
     order = order;
     levelled = subst AreLevelled (sym watches) is.levelled;
   }

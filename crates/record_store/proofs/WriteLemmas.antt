@@ -8,9 +8,9 @@ use Rattle.tl_rules.specs.declared.key.TlKey.{TlKey}
 use Rattle.tl_rules.specs.declared.key.TlKey.TheVariants as key
 use Rattle.tl_rules.specs.declared.value.TlValue.{TlValue}
 use Rattle.tl_rules.specs.declared.value.TlValue.TheVariants as value
-use Rattle.board_lists.specs.declared.listing.Listing.{Listing}
-use Rattle.board_lists.specs.declared.listing.Listing.TheVariants.{Children, BoundFrom, BoundTo}
-use Rattle.board_lists.specs.Listings.{key_of}
+use Rattle.tl_rules.specs.declared.listing.Listing.{Listing}
+use Rattle.tl_rules.specs.declared.listing.Listing.TheVariants.{Children, BoundFrom, BoundTo}
+use Rattle.tl_rules.specs.Listings.{key_of}
 use Rattle.record_store.specs.Kept.{IsBoard}
 use Rattle.record_store.specs.Lists.{Board, atoms_of, records_of, AreLists, IsListOf, IsRelisted, IsWritten, AreNoRecords, Leads, IsTold, AreTold, ChangesOnly}
 use Rattle.signal_values.specs.Seen.{top}

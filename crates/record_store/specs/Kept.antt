@@ -1,6 +1,7 @@
 -- What the store keeps.
 use Rattle.std.specs.Prelude.{◌≡◌, ℕ, ◌<◌, ◌≤◌, List, [], ◌∷◌, length, Some}
 use Rattle.rooms_val.specs.Data.{map, members_of, IsSound}
+use Rattle.doc_store.specs.declared.store.TheConstants.{MOST_OPEN}
 use Rattle.signal_core.specs.declared.watch.Watch.{Watch}
 use Rattle.signal_core.specs.Watches.{watch_at}
 use Rattle.signal_txn.specs.Seen as txn
@@ -42,6 +43,6 @@ pub record IsStore (store : Seen) : Type 0 where
   pub keys : AreKeys store.keys
   pub now : IsBoard store.keys (atoms store)
   pub before : AreBoards store.keys (txn.begun tl_meaning key_cmp store.txn)
-  pub depth : length store.txn.journal.levels ≤ 16
+  pub depth : length store.txn.journal.levels ≤ MOST_OPEN
   pub order : epoch store < top → AreInTurn store.txn.journal.levels (ring store) (epoch store)
   pub levelled : (number : ℕ) (watch : Watch TlKey TlValue) → watch_at (watches store) number ≡ Some watch → IsLevelled watch.key

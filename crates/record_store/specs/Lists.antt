@@ -20,8 +20,8 @@ use Rattle.tl_rules.specs.declared.key.TlKey.TheVariants as key
 use Rattle.tl_rules.specs.declared.rules.TlRules.{TlRules}
 use Rattle.tl_rules.specs.declared.value.TlValue.{TlValue}
 use Rattle.tl_rules.specs.declared.value.TlValue.TheVariants as value
-use Rattle.board_lists.specs.declared.listing.Listing.{Listing}
-use Rattle.board_lists.specs.Listings.{owner_of, index_of, listed, is_before, key_of}
+use Rattle.tl_rules.specs.declared.listing.Listing.{Listing}
+use Rattle.tl_rules.specs.Listings.{owner_of, index_of, listed, is_before, key_of}
 use Rattle.record_store.specs.Seen.{Keys, records_under}
 use Rattle.record_store.specs.Turns.{AreInTurn, written_under, written_all}
 

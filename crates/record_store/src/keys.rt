@@ -42,6 +42,13 @@ impl Keys {
         }
     }
 
+    /// Does nothing: that each key is that of its record is told by the type.
+    pub(crate) fn tell(&self)
+        ensures { AreKeys self.now }
+    {
+        let _ = self.tree.len();
+    }
+
     /// The key of the record of an id that was written.
     pub(crate) fn get(&self, id: &str) -> Option<&TlKey>
         ensures found { option_map (λ k. k.now) result ≡ value_at self.now id.now }

@@ -5,7 +5,7 @@
 //! that were ever written and as its transactions over the graph (`specs/Seen.antt`): its records, those at which its open
 //! transactions began, and its watches are read from these. What is asked comes to what the plain queries of `shape_tree`
 //! say of the records (`specs/Plain.antt`). The crate stands on `signal_txn` for transactions and freshness, on `tl_rules`
-//! for what each key asks for, and on `board_lists` for how lists change with a record.
+//! for what each key asks for and for how lists change with a record.
 #![tactic(auto)]
 
 mod keys;

@@ -10,19 +10,18 @@ ghost use Rattle.tl_rules.specs.Answers.{ids_in, record_in};
 ghost use Rattle.tl_rules.specs.Meaning.{rank_of};
 ghost use Rattle.tl_rules.specs.declared.key.TlKey.TheVariants as key_of;
 ghost use Rattle.tl_rules.specs.declared.value.TlValue.TheVariants as told;
-ghost use Rattle.board_lists.specs.declared.listing.Listing.{Listing as Kind};
-ghost use Rattle.board_lists.specs.Laws.{IsPlaceAmong};
-ghost use Rattle.board_lists.specs.Listings.{is_before};
+ghost use Rattle.tl_rules.specs.declared.listing.Listing.{Listing as Kind};
+ghost use Rattle.tl_rules.specs.ListLaws.{IsPlaceAmong};
+ghost use Rattle.tl_rules.specs.Listings.{is_before};
 ghost use Rattle.record_store.specs.Kept.{IsBoard};
 ghost use Rattle.record_store.specs.Seen.{AreKeys};
 ghost use Rattle.record_store.specs.Lists.{atoms_of, records_of, place_at, AreLists, HasRecords, IsBeforeAt, AreBefore, AreBehind, IsListOf, StandAlike, IsMoved, IsRelisted, IsWritten, IsTold, AreTold, ChangesOnly};
 
 use crate::keys::Keys;
-use board_lists::{Listing, with_id, without_id};
 use rooms_val::{Mem, Text, Val};
 use signal_txn::Txn;
 use std::alloc::Global;
-use tl_rules::{Ids, TlKey, TlRules, TlValue};
+use tl_rules::{Ids, Listing, TlKey, TlRules, TlValue, with_id, without_id};
 
 // The record that an atom has, if there is one.
 pub(crate) fn record_of<'a>(graph: &'a Txn<TlRules>, key: &TlKey) -> Option<&'a Val>
@@ -344,8 +343,9 @@ pub(crate) fn write_all(
     ensures told { OnOk result (AreTold keys.now graph.old graph.new) }
 {
     tell_sound(&after);
-    let before = copied(alloc, record_at(graph, keys, id))?;
+    keys.tell();
     let key = TlKey::Rec(Text::of(alloc, id)?);
+    let before = Val::copy_of(alloc, record_of(graph, &key))?;
     relist_all(alloc, graph, keys, id, &before, &after)?;
     set_atom(alloc, graph, key, TlValue::Rec(after))?;
     Ok(before)
@@ -357,15 +357,5 @@ fn tell_sound(record_: &Option<Val>)
 {
     if let Some(val) = record_ {
         let _ = val.kind();
-    }
-}
-
-// An equal record, if there is one.
-fn copied(alloc: Global, record_: Option<&Val>) -> Mem<Option<Val>>
-    ensures { IfOk result (λ r. owned_data r ≡ maybe_data record_.entry) }
-{
-    match record_ {
-        Some(val) => Ok(Some(val.copy(alloc)?)),
-        None => Ok(None),
     }
 }

@@ -2,6 +2,7 @@
 ghost use Rattle.std.specs.Prelude.{◌≡◌, ◌<◌, ◌≢◌, ◌+◌, ◌≤◌, ◌↔◌, [], ◌∷◌, length, IsTrue, IfOk, OnOk, OnErr, Err};
 ghost use Rattle.rooms_val.specs.Maps.{value_at, set_at};
 ghost use Rattle.field_ops.specs.View.{maybe_data};
+ghost use Rattle.doc_store.specs.declared.store.TheConstants.{MOST_OPEN};
 ghost use Rattle.signal_core.specs.Watches.{IsLeastFree, IsWatched, IsFull, AddsWatch, DropsWatch};
 ghost use Rattle.signal_core.specs.Due.{AreFreshKeys, AreFreshIn};
 ghost use Rattle.signal_core.specs.declared.watch.WatchFault.TheVariants as watch_fault;
@@ -17,7 +18,7 @@ ghost use Rattle.record_store.specs.Calls.{AreDue, AreNews, ArePlainNews, AreTol
 
 use crate::keys::Keys;
 use crate::lists::{record_at, write_all};
-use doc_store::DocStore;
+use doc_store::{DocStore, MOST_OPEN};
 use rooms_val::{Mem, OutOfMemory, Steps, Text, TxnFault, Val};
 use signal_core::{News, WatchFault, WatchId};
 use signal_txn::{Since, Txn};
@@ -25,9 +26,6 @@ use std::alloc::Global;
 use std::marker::Model;
 use std::sync::ledger::Ledger;
 use tl_rules::{TlKey, TlRules, TlValue};
-
-/// How many transactions may be open.
-const DEEPEST: usize = 16;
 
 /// A store of which views are asked and watched.
 #[derive(Drop)]
@@ -341,7 +339,7 @@ impl DocStore for RecordStore {
     /// record, and what is fresh stays so.
     fn begin(&mut self) -> Result<(), TxnFault>
         ensures ok { OnOk result (begun self.new ≡ records self.old ∷ begun self.old) }
-        ensures nested { (result ≡ Err TxnFault.TooNested) ↔ (16 ≤ length (begun self.old)) }
+        ensures nested { (result ≡ Err TxnFault.TooNested) ↔ (MOST_OPEN ≤ length (begun self.old)) }
         ensures err { OnErr result (begun self.new ≡ begun self.old) }
         ensures records { records self.new ≡ records self.old }
         ensures rest { watches self.new ≡ watches self.old }
@@ -350,7 +348,7 @@ impl DocStore for RecordStore {
             ≡ record self.old.txn.journal { levels = unwritten ∷ self.old.txn.journal.levels }) }
         ensures same { OnErr result (self.new ≡ self.old) }
     {
-        if self.graph.depth() >= DEEPEST {
+        if self.graph.depth() >= MOST_OPEN {
             return Err(TxnFault::TooNested);
         }
         open(self.alloc, &mut self.graph)?;
@@ -382,7 +380,7 @@ impl DocStore for RecordStore {
 
 // Opens a transaction, where at most 16 are open.
 fn open(alloc: Global, graph: &mut Txn<TlRules>) -> Mem<()>
-    requires { length graph.old.journal.levels ≤ 16 }
+    requires { length graph.old.journal.levels ≤ MOST_OPEN }
     ensures begun { OnOk result (begun_of graph.new ≡ atoms_of graph.old ∷ begun_of graph.old) }
     ensures journal { OnOk result (graph.new.journal
         ≡ record graph.old.journal { levels = unwritten ∷ graph.old.journal.levels }) }

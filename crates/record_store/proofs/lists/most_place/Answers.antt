@@ -1,5 +1,5 @@
 use Rattle.std.proofs.Common.{◌∙◌, length, sym, arith}
-use Rattle.board_lists.specs.Listings.{is_before}
+use Rattle.tl_rules.specs.Listings.{is_before}
 use Rattle.record_store.specs.Lists.{place_at}
 use Rattle.record_store.proofs.PlaceLemmas.{starts, goes_down}
 use Rattle.record_store.proofs.lists.most_place.Goals as goal

@@ -1,5 +1,5 @@
 use Rattle.std.proofs.Common.{◌∙◌, ◌+◌, ◌-◌, ◌/◌, sym, arith}
-use Rattle.board_lists.specs.Listings.{is_before}
+use Rattle.tl_rules.specs.Listings.{is_before}
 use Rattle.record_store.specs.Lists.{place_at}
 use Rattle.record_store.proofs.PlaceLemmas.{goes_up, goes_down}
 use Rattle.record_store.proofs.lists.place_among.Goals as goal

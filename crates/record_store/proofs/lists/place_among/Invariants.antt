@@ -1,6 +1,6 @@
 use Rattle.std.proofs.Common.{◌≤◌, ◌-◌, length}
 use Rattle.rooms_val.specs.Data.{Pairs}
-use Rattle.board_lists.specs.Listings.{is_before}
+use Rattle.tl_rules.specs.Listings.{is_before}
 use Rattle.record_store.specs.Lists.{HasRecords, place_at}
 use Rattle.record_store.proofs.PlaceLemmas.{IsBetween}
 use Rattle.record_store.proofs.lists.place_among.Given as goal

@@ -2,7 +2,7 @@ use Rattle.std.proofs.Common.{sym, ap, subst, ◌∙◌}
 use Rattle.rooms_val.specs.Data.{Pairs}
 use Rattle.rooms_val.specs.Maps.{value_at, set_at}
 use Rattle.field_ops.specs.View.{maybe_data}
-use Rattle.board_lists.specs.declared.listing.Listing.TheVariants.{Children, BoundFrom, BoundTo}
+use Rattle.tl_rules.specs.declared.listing.Listing.TheVariants.{Children, BoundFrom, BoundTo}
 use Rattle.record_store.specs.Lists.{records_of, AreLists}
 use Rattle.record_store.proofs.FrameLemmas.{in_turn, wider, on_ok}
 use Rattle.record_store.proofs.ListLemmas.{lists_unmoved, same_moved, has_moved, each_kind, from_to, children_from, children_to, to_from, from_children, to_children}

@@ -3,7 +3,7 @@ use Rattle.std.specs.List.{remove}
 use Rattle.rooms_val.specs.View.{data_of}
 use Rattle.tl_rules.specs.declared.key.TlKey.{TlKey}
 use Rattle.tl_rules.specs.declared.value.TlValue.TheVariants as value
-use Rattle.board_lists.specs.Listings.{key_of, listed}
+use Rattle.tl_rules.specs.Listings.{key_of, listed}
 use Rattle.record_store.specs.Lists.{atoms_of, records_of, ChangesOnly}
 use Rattle.record_store.proofs.FrameLemmas.{wider, on_ok}
 use Rattle.record_store.proofs.ListLemmas.{ids_are, place_to_leave, within_list, unlisted, unlisted_nowhere}
