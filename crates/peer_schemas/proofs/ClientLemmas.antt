@@ -1,13 +1,11 @@
 -- What the tables decide is lawful, and goes by versions alone.
-use Rattle.std.proofs.Common.{◌≡◌, ℕ, true, false, List, [], map, Option, None, Some, option_map, refl, sym, ap, subst, ◌∙◌}
+use Rattle.std.proofs.Common.{◌≡◌, ℕ, true, List, [], map, option_map, refl, sym, ap, subst, ◌∙◌}
 use Rattle.std.specs.List.{list_all}
-use Rattle.schema_core.specs.Admits.{is_admitted, is_document, is_of_document, scope_of}
+use Rattle.schema_core.specs.Admits.{is_admitted, is_document}
 use Rattle.schema_core.specs.Builds.{by_name}
 use Rattle.schema_core.specs.Tree.{SchemaTree, Types}
-use Rattle.schema_core.specs.declared.row.Scope.{Scope}
-use Rattle.schema_core.specs.declared.row.Scope.TheVariants.{Document, Session, Presence}
 use Rattle.room_model.specs.Schemas.{WorldSchemas, AreLawfulTogether}
-use Rattle.room_schemas.specs.Decided.{is_of_presence}
+use Rattle.room_schemas.proofs.ApartLemmas.{document_apart}
 use Rattle.shape_tree.specs.Records.{is_shape, is_binding}
 use Rattle.side_effects.specs.Completed.{completed}
 use Rattle.side_effects.proofs.CompletedLemmas.{completed_documents, completed_rises}
@@ -23,12 +21,6 @@ use Rattle.peer_schemas.proofs.ByIdLemmas.{by_id-rising, rising-by_id}
 use Rattle.peer_schemas.proofs.PlanLemmas.{same_types, newest}
 use Rattle.peer_schemas.proofs.TypeLemmas.{same_document, shapes_of, bindings_of}
 use Rattle.peer_schemas.proofs.VersionLemmas.{table_version-known}
-
-document_apart : (o : Option Scope) → is_of_document o ≡ true → is_of_presence o ≡ false
-document_apart None is = absurd (cc)
-document_apart (Some Document) is = refl
-document_apart (Some Session) is = absurd (cc)
-document_apart (Some Presence) is = absurd (cc)
 
 -- shapes and bindings are the document's at each version
 shapes_are : (n : ℕ) (id : List ℕ) → is_shape id ≡ true → is_document (types_at n) id ≡ true
@@ -66,7 +58,7 @@ module _ (version : ℕ) (s : SchemaTree) (known : IsVersion version) (at : IsSc
   lawful_of : AreLawfulTogether (schemas_of s)
   lawful_of = record {
     room = record {
-      apart = λ id is. document_apart (scope_of s id) is;
+      apart = λ id is. document_apart s id is;
       presence = presences version s at;
       raises_nothing = λ d. refl;
       lowers_nothing = λ d. refl;

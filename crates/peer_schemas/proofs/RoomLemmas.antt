@@ -5,16 +5,16 @@ use Rattle.std.specs.List.{list_all, filter_map, cons_option}
 use Rattle.rooms_val.specs.Data.{Data, Pairs}
 use Rattle.rooms_val.specs.Maps.{without_key}
 use Rattle.migrate_seq.specs.Plans.{migration_at, migrations_at, plan_answer, is_record, are_both_ways}
-use Rattle.migrate_seq.specs.Records.{passes, raised, lowered, through, migrated, raised_along, lowered_along}
-use Rattle.migrate_seq.specs.Steps.{at_path, added, renamed, toward, changed_at, replaced, scaled, divided, nested, unnested, stepped}
+use Rattle.migrate_steps.specs.Records.{passes, raised, lowered, through, migrated, raised_along, lowered_along}
+use Rattle.migrate_steps.specs.Steps.{at_path, added, renamed, toward, changed_at, replaced, scaled, divided, nested, unnested, stepped}
 use Rattle.migrate_seq.specs.Versions.{Versions}
 use Rattle.migrate_seq.specs.declared.fault.PlanFault.{PlanFault}
-use Rattle.migrate_seq.specs.declared.migration.Migration.{Migration}
-use Rattle.migrate_seq.specs.declared.migration.Sequence.{Sequence}
-use Rattle.migrate_seq.specs.declared.step.MigStep.{MigStep}
-use Rattle.migrate_seq.specs.declared.step.MigStep.TheVariants.{Add, Remove, Rename, MapEnum, Scale, Nest, Unnest}
-use Rattle.migrate_seq.specs.declared.step.Way.{Way}
-use Rattle.migrate_seq.specs.declared.step.Way.TheVariants.{Up, Down}
+use Rattle.migrate_steps.specs.declared.migration.Migration.{Migration}
+use Rattle.migrate_steps.specs.declared.migration.Sequence.{Sequence}
+use Rattle.migrate_steps.specs.declared.step.MigStep.{MigStep}
+use Rattle.migrate_steps.specs.declared.step.MigStep.TheVariants.{Add, Remove, Rename, MapEnum, Scale, Nest, Unnest}
+use Rattle.migrate_steps.specs.declared.step.Way.{Way}
+use Rattle.migrate_steps.specs.declared.step.Way.TheVariants.{Up, Down}
 use Rattle.schema_core.specs.Admits.{is_admitted, is_document}
 use Rattle.schema_core.specs.Tree.{SchemaTree, Types}
 use Rattle.room_model.specs.Schemas.{Schemas, Plan}

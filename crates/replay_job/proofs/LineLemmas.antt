@@ -16,9 +16,8 @@ use Rattle.rooms_val.specs.declared.fault.ValFault.{ValFault}
 use Rattle.rooms_val.specs.declared.fault.ValFault.TheVariants as val
 use Rattle.rooms_val.proofs.DataLemmas.{pairs_of-members_of, val_of-data_of}
 use Rattle.field_ops.specs.RecordOps.{RecordOps}
-use Rattle.field_ops.specs.WireRecordOps.{change_in, change_in-change_data, diff_pairs}
+use Rattle.field_ops.specs.WireRecordOps.{change_in, diff_pairs}
 use Rattle.record_valid.specs.Ids.{type_part}
-use Rattle.shape_tree.specs.Views.{ids_data}
 use Rattle.room_model.specs.Clips.{is_prefix}
 use Rattle.room_model.specs.declared.event.Event.{Event}
 use Rattle.room_model.specs.declared.event.Event.TheVariants as event
@@ -36,6 +35,7 @@ use Rattle.rec_format.specs.declared.recorded.RecordedEvent.TheVariants as recor
 use Rattle.rec_format.specs.declared.verb.Verb.{Verb}
 use Rattle.rec_format.specs.declared.verb.Verb.TheVariants as verb
 use Rattle.rec_format.proofs.EventLemmas.{verb_of, says, says_nothing, some_one}
+use Rattle.rec_format.proofs.OneEachLemmas.{texts_in-ids_data as texts_again, changes_in-diff_pairs as changes_again}
 use Rattle.fault_texts.specs.Texts.{val_fault_text}
 use Rattle.replay_job.specs.Taking.{IsRefusedHeader, IsRefusedEvent}
 use Rattle.replay_job.proofs.DecideLemmas.{Decided, decide_both, decide_at_most, decide_true, decide_int_at_most, decide_contains, decide_same, decide_diff}
@@ -71,10 +71,6 @@ abbrev texts_in : Data → List (List ℕ)
 texts_in (data'.list ds) = each_text ds
 texts_in d = []
 
-texts_again : (ids : List (List ℕ)) → texts_in (ids_data ids) ≡ ids
-texts_again [] = refl
-texts_again (id ∷ ids) = ap (λ rest. id ∷ rest) (texts_again ids)
-
 abbrev truth_in : Data → Bool
 truth_in (data'.boolean b) = b
 truth_in d = false
@@ -82,10 +78,6 @@ truth_in d = false
 abbrev changes_in : Pairs → RecordOps
 changes_in [] = []
 changes_in (p ∷ ps) = (p.0, change_in p.1) ∷ changes_in ps
-
-changes_again : (cs : RecordOps) → changes_in (diff_pairs cs) ≡ cs
-changes_again [] = refl
-changes_again (c ∷ cs) = λ i. (c.0, change_in-change_data c.1 i) ∷ changes_again cs i
 
 -- the event of a verb that has these fields, where one has them
 abbrev event_with : Verb → Pairs → RecordedEvent
@@ -195,7 +187,7 @@ found_verb word = by (bytes_eq word (word_of (verb_named word))) refl
 abbrev ValHasText : ValFault → Type 0
 ValHasText f = (text : List ℕ) × (val_fault_text f ≡ Some text)
 
-val_texts : (bytes : List ℕ) → IfErr (value_of bytes) ValHasText
+pub val_texts : (bytes : List ℕ) → IfErr (value_of bytes) ValHasText
 val_texts bytes = by (is_utf8 bytes) (read bytes)
   where
     checked_texts : (j : json.Data) (float within deep : Bool) → IfErr (if float then Err val.NotWhole else if not within then Err val.OutOfRange else if deep then Err val.TooDeep else Ok (value_in j)) ValHasText

@@ -1,10 +1,10 @@
 -- There is a schema at each version of the tables.
 use Rattle.std.proofs.Common.{◌≡◌, ℕ, map, refl}
 use Rattle.rooms_val.specs.View.{val_of}
-use Rattle.migrate_seq.specs.declared.migration.Migration.{Migration}
-use Rattle.migrate_seq.specs.declared.migration.Sequence.{Sequence}
-use Rattle.migrate_seq.specs.declared.step.MigStep.{MigStep}
-use Rattle.migrate_seq.specs.declared.step.MigStep.TheVariants.{Add, Remove, Rename, MapEnum, Scale, Nest, Unnest}
+use Rattle.migrate_steps.specs.declared.migration.Migration.{Migration}
+use Rattle.migrate_steps.specs.declared.migration.Sequence.{Sequence}
+use Rattle.migrate_steps.specs.declared.step.MigStep.{MigStep}
+use Rattle.migrate_steps.specs.declared.step.MigStep.TheVariants.{Add, Remove, Rename, MapEnum, Scale, Nest, Unnest}
 use Rattle.schema_core.specs.Builds.{by_name}
 use Rattle.schema_core.specs.Tree.{SchemaTree}
 use Rattle.tl_tables.specs.Migrations.{asset_1, base_1, binding_1, page_1, shape_1, shape_2, sequence_at, asset, base, binding, page, shape, sequences}

@@ -1,7 +1,7 @@
 -- Migrations that go both ways work on one record at a time.
 use Rattle.std.proofs.Common.{◌≡◌, true, ◌&&◌, List, [], ◌∷◌, refl}
 use Rattle.migrate_seq.specs.Plans.{is_record, are_of_records, are_both_ways}
-use Rattle.migrate_seq.specs.declared.migration.Migration.{Migration}
+use Rattle.migrate_steps.specs.declared.migration.Migration.{Migration}
 use Rattle.room_model.proofs.ActingLemmas.{both, left, right}
 
 pub both_ways_of_records : (ms : List Migration) → are_both_ways ms ≡ true → are_of_records ms ≡ true

@@ -18,15 +18,14 @@ use Rattle.field_ops.specs.declared.record_op.RecordOp.{RecordOp}
 use Rattle.field_ops.specs.declared.record_op.RecordOp.TheVariants as v
 use Rattle.doc_model.specs.Documents.{fold_raw, acts_on, left_on}
 use Rattle.doc_model.proofs.MergeLemmas.{at-fold_raw, rising-fold_raw}
-use Rattle.schema_core.specs.Admits.{is_admitted, is_document, is_of_document, scope_of}
+use Rattle.schema_core.specs.Admits.{is_admitted, is_document}
 use Rattle.schema_core.specs.Tree.{SchemaTree}
-use Rattle.schema_core.specs.declared.row.Scope.{Scope}
-use Rattle.schema_core.specs.declared.row.Scope.TheVariants.{Document, Session, Presence}
 use Rattle.room_model.specs.Schemas.{records_with}
 use Rattle.room_model.proofs.ActingLemmas.{all-with_key, left, right, differ}
 use Rattle.room_model.proofs.LookUpLemmas.{none_at, rising-mapped, rising-filter}
 use Rattle.room_model.specs.Accepting.{is_put_admitted}
-use Rattle.room_schemas.specs.Decided.{decided, is_presence, is_of_presence}
+use Rattle.room_schemas.specs.Decided.{decided, is_presence}
+use Rattle.room_schemas.proofs.ApartLemmas.{document_apart, presence_apart}
 use Rattle.room_accept.specs.Parts.{IsPart, IsOwnLeft, are_documents, own_part}
 use Rattle.room_accept.specs.Sizes.{size_of}
 use Rattle.room_accept.specs.Suiting.{AreAdmitted, each_changes, left_under}
@@ -34,22 +33,6 @@ use Rattle.room_accept.specs.declared.part.Part.{Part}
 use Rattle.room_accept.proofs.AdmittedLemmas.{admitted-beside, left_standing}
 use Rattle.room_accept.proofs.PartLemmas.{acted, acting_changes}
 use Rattle.room_accept.proofs.SizeLemmas.{same_records, records-set_at, adds, total-set_at, length_total}
-
-scopes_apart : (o : Option Scope) → is_of_presence o ≡ true → is_of_document o ≡ false
-scopes_apart None is = absurd (cc)
-scopes_apart (Some Document) is = absurd (cc)
-scopes_apart (Some Session) is = refl
-scopes_apart (Some Presence) is = refl
-
--- the id of a presence isn't the document's
-pub presence_apart : (s : SchemaTree) (id : List ℕ) → is_presence s id ≡ true → is_document s id ≡ false
-presence_apart s id is = scopes_apart (scope_of s id) is
-
-document_apart : (o : Option Scope) → is_of_document o ≡ true → is_of_presence o ≡ false
-document_apart None is = absurd (cc)
-document_apart (Some Document) is = refl
-document_apart (Some Session) is = absurd (cc)
-document_apart (Some Presence) is = absurd (cc)
 
 module _ (test : List ℕ → Bool) where
   -- what doesn't pass a test changes nothing of what does
@@ -81,7 +64,7 @@ pub presences_kept : (s : SchemaTree) (m : Pairs) (part : RecordOps) → are_doc
 presences_kept s m [] documents = refl
 presences_kept s m (c ∷ part) documents =
     presences_kept s (set_at m c.0 (raw c.1 (value_at m c.0))) part (right _ _ documents)
-    ∙ kept-set_at (is_presence s) m c.0 (raw c.1 (value_at m c.0)) (document_apart (scope_of s c.0) (left _ _ documents))
+    ∙ kept-set_at (is_presence s) m c.0 (raw c.1 (value_at m c.0)) (document_apart s c.0 (left _ _ documents))
 
 at_most_one : (o : Option Data) → adds (λ d. 1) o ≤ 1
 at_most_one None = omega arith

@@ -1,5 +1,5 @@
 -- What an accepted push and a removal make of what is kept.
-use Rattle.std.proofs.Common.{◌≡◌, ℕ, ◌+◌, ◌≤◌, ◌^◌, pos, ◌<ℤ◌, Bool, true, false, ◌&&◌, ◌||◌, cond, not, List, [], ◌∷◌, length, map, sum, Option, Some, None, is_some, refl, sym, ap, subst, ◌∙◌, arith}
+use Rattle.std.proofs.Common.{◌≡◌, ℕ, ◌+◌, ◌≤◌, ◌^◌, pos, ◌<ℤ◌, true, false, ◌&&◌, ◌||◌, cond, not, List, [], ◌∷◌, length, map, sum, Option, Some, None, is_some, refl, sym, ap, subst, ◌∙◌, arith}
 use Rattle.std.specs.List.{list_all}
 use Rattle.std.proofs.lemmas.Int.{ints}
 use Rattle.rooms_val.specs.Data.{Data, Pairs}
@@ -10,16 +10,16 @@ use Rattle.field_ops.specs.RecordOps.{RecordOps}
 use Rattle.field_ops.specs.Patched.{raw}
 use Rattle.field_ops.specs.View.{maybe_data}
 use Rattle.doc_model.specs.Documents.{fold_raw}
-use Rattle.schema_core.specs.Admits.{is_document, is_of_document, scope_of}
+use Rattle.schema_core.specs.Admits.{is_document}
 use Rattle.schema_core.specs.SchemaOf.{schema_tree}
-use Rattle.schema_core.specs.declared.row.Scope.{Scope}
-use Rattle.schema_core.specs.declared.row.Scope.TheVariants.{Document, Session, Presence}
 use Rattle.room_model.specs.Histories.{History, records_of}
 use Rattle.room_model.specs.Rooms.{removal}
 use Rattle.room_model.specs.Schemas.{presence_id, records_with}
+use Rattle.room_model.proofs.ActingLemmas.{differ, left as first, right as second, both}
 use Rattle.room_model.proofs.HistoryLemmas.{filter_twice, at_most-filter}
 use Rattle.room_model.proofs.LookUpLemmas.{at-filter, rising-mapped}
-use Rattle.room_schemas.specs.Decided.{is_presence, is_of_presence}
+use Rattle.room_schemas.specs.Decided.{is_presence}
+use Rattle.room_schemas.proofs.ApartLemmas.{presence_apart}
 use Rattle.room_accept.specs.Sizes.{size_of}
 use Rattle.room_accept.specs.Suiting.{AreAdmitted, Suits, HasPresences, left_under, each_changes}
 use Rattle.room_accept.specs.declared.accepted.Accepted.{Accepted}
@@ -35,18 +35,6 @@ use Rattle.room_history.proofs.UsableLemmas.{live_some}
 pub marks_rise : (m : Pairs) (diff : RecordOps) → AreRising diff → AreRising (marks_of (left_under m diff))
 marks_rise m diff rising =
     rising-mapped (λ id (r : Option Data). is_some r) (left_under m diff) (rising-mapped (λ id c. raw c (value_at m id)) diff rising)
-
-first : (a b : Bool) → a && b ≡ true → a ≡ true
-first true b is = refl
-first false b is = is
-
-second : (a b : Bool) → a && b ≡ true → b ≡ true
-second true b is = is
-second false b is = absurd (cc)
-
-both : (a b : Bool) → a ≡ true → b ≡ true → a && b ≡ true
-both true b p q = q
-both false b p q = p
 
 -- what is removed is live
 pub marks_can : (kept : Kept) → ∥ KeepsSome kept ∥₁ → (diff : RecordOps) → each_changes kept.records.0 diff ≡ true
@@ -80,13 +68,6 @@ module _ (first : ℕ) (history : History) (old new : Kept) (accepted : Accepted
       (size ∙ suits.size ∙ (λ i. size_of (is_document (sym same i)) (fold_raw (at i) accepted.entry.diff)))
       (omega arith) (omega (arith, ints))
 
--- a document has no presence
-apart : (o : Option Scope) → is_of_presence o ≡ true → is_of_document o ≡ true → ⊥
-apart None p d = cc
-apart (Some Document) p d = cc
-apart (Some Session) p d = cc
-apart (Some Presence) p d = cc
-
 -- who is there is one fewer without
 fewer : (m : Pairs) (k : List ℕ) → is_some (value_at m k) ≡ true → length (without_key m k) + 1 ≤ length m
 fewer [] k has = absurd (cc)
@@ -114,7 +95,7 @@ module _ (first : ℕ) (history : History) (old new : Kept) (session : ℕ) (kee
       filter_twice (λ (e : List ℕ × Data). is_document s e.0) (λ e. not (ties Id e.0)) M
       ∙ filter_passing (λ (e : List ℕ × Data). not (ties Id e.0)) (λ e. is_document s e.0) (λ e is.
       elim (ties Id e.0) as (λ b. ties Id e.0 ≡ b → not b ≡ true) [
-        | true ↦ λ tie. absurd (apart (scope_of s Id) (ours session) (ap (is_document s) (ties_same Id e.0 tie) ∙ is))
+        | true ↦ λ tie. absurd (differ (sym (ap (is_document s) (ties_same Id e.0 tie) ∙ is) ∙ presence_apart s Id (ours session)))
         | false ↦ λ tie. refl
       ] refl) M in
       let there : is_some (value_at (records_with (is_presence s) M) Id) ≡ true =

@@ -40,7 +40,7 @@ AreTombsApart [] = Unit {0}
 AreTombsApart (t ∷ ts) = (tomb_at ts t.id ≡ None) × AreTombsApart ts
 
 -- a record that says an id is the only one
-says_none : (r : SavedRecord) (rs : List SavedRecord) (q : List ℕ) → AreApart (r ∷ rs) → says q r ≡ true → record_at rs q ≡ None
+pub says_none : (r : SavedRecord) (rs : List SavedRecord) (q : List ℕ) → AreApart (r ∷ rs) → says q r ≡ true → record_at rs q ≡ None
 says_none r rs q apart is =
     elim (own_id r) as (λ o. own_id r ≡ o → option_map_or (λ id. ties q id) o false ≡ true → record_at rs q ≡ None) [
       | None ↦ λ own no. absurd (cc)

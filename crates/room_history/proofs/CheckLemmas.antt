@@ -18,7 +18,7 @@ use Rattle.room_model.specs.declared.saved.SavedTomb.{SavedTomb}
 use Rattle.room_history.specs.Checks.{refused_record, is_tomb_fit}
 use Rattle.room_history.specs.Loads.{with_saved, records_in}
 
-among-keys : (m : Pairs) (q : List ℕ) → is_among (keys_of m) q ≡ is_some (value_at m q)
+pub among-keys : (m : Pairs) (q : List ℕ) → is_among (keys_of m) q ≡ is_some (value_at m q)
 among-keys [] q = refl
 among-keys (e ∷ es) q = ap (λ b. b || is_among (keys_of es) q) (ties_flip e.0 q) ∙ elim (ties q e.0) as (λ b. b || is_among (keys_of es) q ≡ is_some (cond b (Some e.1) (value_at es q))) [ true ↦ refl | false ↦ among-keys es q ]
 

@@ -1,5 +1,5 @@
 -- What lists of changes have once ids are marked.
-use Rattle.std.proofs.Common.{◌≡◌, ℕ, ℤ, ◌≤ℤ◌, Bool, true, false, ◌&&◌, ◌||◌, cond, not, List, [], ◌∷◌, ◌++◌, map, Some, None, All, Contains, refl, sym, ap, subst, ◌∙◌, arith}
+use Rattle.std.proofs.Common.{◌≡◌, ℕ, ℤ, ◌≤ℤ◌, Bool, true, false, ◌||◌, cond, not, List, [], ◌∷◌, ◌++◌, map, Some, None, All, Contains, refl, sym, ap, subst, ◌∙◌, arith}
 use Rattle.std.specs.List.{list_all}
 use Rattle.std.proofs.lemmas.List.Elements.{All-nil, All-cons, All-head, All-tail, All-append, All-filter, Contains-append_left, Contains-append_right, Contains-push}
 use Rattle.std.proofs.lemmas.Int.{ints}
@@ -7,6 +7,7 @@ use Rattle.change_list.specs.declared.entries.Change.{Change}
 use Rattle.change_list.specs.Changes.{has_id, without_id, IsListed, AreUpTo}
 use Rattle.rooms_val.specs.Maps.{value_at, ties}
 use Rattle.rooms_val.proofs.MapsLemmas.{ties_same, ties_flip}
+use Rattle.room_model.proofs.ActingLemmas.{left as first, right as second, both}
 use Rattle.room_history.specs.Marks.{Marks, Lists, is_listed, mark_one}
 
 module _ {X : Type 0} (P : X → Type 0) where
@@ -68,18 +69,6 @@ or_left a b is = ap (λ x. x || b) is
 listed-marked : (clock : ℤ) (id q : List ℕ) (live : Bool) (lists : Lists) → ties q id ≡ false → is_listed lists.0 q ≡ true → is_listed ((mark_one clock id live lists).0) q ≡ true
 listed-marked clock id q true lists other is = listed-append (without_id id lists.0) _ q ∙ or_left _ _ (listed-without lists.0 id q other is)
 listed-marked clock id q false lists other is = listed-without lists.0 id q other is
-
-both : (a b : Bool) → a ≡ true → b ≡ true → a && b ≡ true
-both true b p q = q
-both false b p q = p
-
-pub first : (a b : Bool) → a && b ≡ true → a ≡ true
-first true b is = refl
-first false b is = is
-
-pub second : (a b : Bool) → a && b ≡ true → b ≡ true
-second true b is = is
-second false b is = absurd (cc)
 
 -- those that are still to be marked can be
 pub can_mark : (clock : ℤ) (id : List ℕ) (live : Bool) (lists : Lists) (marks : Marks) → value_at marks id ≡ None

@@ -1,5 +1,5 @@
 -- What the changes of ids are once an entry is marked, operation by operation.
-use Rattle.std.proofs.Common.{◌≡◌, ℕ, suc, ◌<◌, pos, Bool, true, false, ◌&&◌, ◌||◌, cond, not, List, [], ◌∷◌, ◌++◌, length, map, filter, Some, None, is_some, refl, sym, ap, subst, ◌∙◌}
+use Rattle.std.proofs.Common.{◌≡◌, ℕ, suc, ◌<◌, pos, Bool, true, false, ◌||◌, cond, not, List, [], ◌∷◌, ◌++◌, length, map, filter, Some, None, is_some, refl, sym, ap, subst, ◌∙◌}
 use Rattle.std.specs.Prelude.{is_none}
 use Rattle.std.proofs.lemmas.List.{map-append, append-nil, append_assoc}
 use Rattle.change_list.specs.Changes.{without_id}
@@ -8,19 +8,12 @@ use Rattle.rooms_val.specs.Maps.{value_at, ties, AreRising}
 use Rattle.field_ops.specs.RecordOps.{RecordOps}
 use Rattle.field_ops.specs.Patched.{raw}
 use Rattle.room_model.specs.Histories.{History, records_of}
+use Rattle.room_model.proofs.ActingLemmas.{left as both_left, right as both_right}
 use Rattle.room_accept.specs.Suiting.{left_under, each_changes}
 use Rattle.room_history.specs.Keeps.{change_at}
 use Rattle.room_history.specs.Marks.{Lists, mark_one, mark_all, marks_of}
 use Rattle.room_history.proofs.FilterLemmas.{filter-map, none_before}
 use Rattle.room_history.proofs.PartLemmas as part
-
-both_left : (a b : Bool) → a && b ≡ true → a ≡ true
-both_left true b is = refl
-both_left false b is = is
-
-both_right : (a b : Bool) → a && b ≡ true → b ≡ true
-both_right true b is = is
-both_right false b is = absurd (cc)
 
 pub without-changes : (live : Bool) (id : List ℕ) (ps : List (List ℕ × ℕ)) → without_id id (map (change_at live) ps) ≡ map (change_at live) (filter (λ p. not (ties p.0 id)) ps)
 without-changes live id ps = filter-map (λ change. not (ties change.id id)) (change_at live) ps

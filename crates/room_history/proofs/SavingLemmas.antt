@@ -27,7 +27,7 @@ use Rattle.room_history.specs.Keeps.{Keeps, change_at, present_ids}
 use Rattle.room_history.specs.Marks.{is_listed}
 use Rattle.room_history.specs.Saving.{with_own_id, clocks_of}
 use Rattle.room_history.specs.declared.kept.Kept.{Kept}
-use Rattle.room_history.proofs.UsableLemmas.{live_there}
+use Rattle.room_history.proofs.UsableLemmas.{live_there, each-map as each_mapped}
 
 module _ {X : Type 0} where
   from_each : (P : X → Type 0) (xs : List X) → Each P xs → All P xs
@@ -45,10 +45,6 @@ module _ {X : Type 0} where
   any-append : (test : X → Bool) (xs ys : List X) → list_any test (xs ++ ys) ≡ list_any test xs || list_any test ys
   any-append test [] ys = refl
   any-append test (x ∷ xs) ys = elim (test x) as (λ b. b || list_any test (xs ++ ys) ≡ (b || list_any test xs) || list_any test ys) [ true ↦ refl | false ↦ any-append test xs ys ]
-
-each_mapped : {X Y : Type 0} (P : Y → Type 0) (f : X → Y) (xs : List X) → Each (λ x. P (f x)) xs → Each P (map f xs)
-each_mapped P f [] h = tt
-each_mapped P f (x ∷ xs) h = (h.0, each_mapped P f xs h.1)
 
 map_after : {X Y Z : Type 0} (g : Y → Z) (f : X → Y) (xs : List X) → map (λ x. g (f x)) xs ≡ map g (map f xs)
 map_after g f [] = refl
@@ -84,7 +80,7 @@ module _ {V : Type 0} where
       (ap (λ b. cond b (Some e.1) (value_at es e.0)) (itself e.0), each-imp P Q still es (each_found es (rising_rest e es rising)))
 
 -- each id is listed with its last clock
-last_are : (history : History) → Each (λ p. p.1 ≡ last_clock history p.0) (last_clocks history)
+pub last_are : (history : History) → Each (λ p. p.1 ≡ last_clock history p.0) (last_clocks history)
 last_are [] = tt
 last_are (entry ∷ history) =
     let n = suc (length history) in

@@ -17,30 +17,30 @@ use Rattle.rooms_val.specs.Maps.{value_at, with_key, ties, AreRising}
 use Rattle.rooms_val.specs.View.{data_of}
 use Rattle.rooms_val.specs.Weight.{weight}
 use Rattle.rooms_val.proofs.MapsLemmas.{at-with_key, rising-with_key, same_pairs, ties_same, order_itself}
-use Rattle.doc_model.proofs.MergeLemmas.{rising-fold_raw}
 use Rattle.field_ops.specs.RecordOps.{RecordOps}
-use Rattle.schema_core.specs.Admits.{is_document, is_admitted, is_of_document, scope_of}
+use Rattle.schema_core.specs.Admits.{is_document, is_admitted}
 use Rattle.schema_core.specs.SchemaOf.{schema_tree}
 use Rattle.schema_core.specs.Tree.{SchemaTree}
-use Rattle.schema_core.specs.declared.row.Scope.{Scope}
-use Rattle.schema_core.specs.declared.row.Scope.TheVariants.{Document, Session, Presence}
 use Rattle.room_accept.proofs.SizeLemmas.{adds, IsTotal, total-set_at, length_total, weight_total}
 use Rattle.room_accept.specs.Sizes.{size_of}
 use Rattle.room_accept.specs.Suiting.{AreAdmitted}
 use Rattle.room_model.proofs.HistoryLemmas.{Each, each-imp}
-use Rattle.room_model.specs.Histories.{History, records_of}
+use Rattle.room_model.proofs.ActingLemmas.{left as both_left, right as both_right}
+use Rattle.room_model.proofs.BaseLemmas.{rising-records as rising-records_of}
+use Rattle.room_model.specs.Histories.{records_of}
 use Rattle.room_model.specs.Saves.{own_id, diff_at, begun_to, begun}
 use Rattle.room_model.specs.Schemas.{records_with}
 use Rattle.room_model.specs.declared.limits.TheConstants.{MOST_TOLD}
 use Rattle.room_model.specs.declared.saved.SavedRecord.{SavedRecord}
 use Rattle.room_model.specs.declared.saved.SavedRoom.{SavedRoom}
-use Rattle.room_schemas.specs.Decided.{decided, is_presence, is_of_presence}
+use Rattle.room_schemas.specs.Decided.{decided, is_presence}
+use Rattle.room_schemas.proofs.ApartLemmas.{document_apart}
 use Rattle.room_history.specs.Begins.{mark_diffs, diff_in, AreWithin, trees_after}
 use Rattle.room_history.specs.Entries.{recent_tree}
 use Rattle.room_history.specs.Keeps.{Keeps, change_at}
 use Rattle.room_history.specs.Loads.{with_saved, records_in, size_in}
 use Rattle.room_history.specs.declared.kept.Kept.{Kept}
-use Rattle.room_history.proofs.BegunLemmas.{Fits, says, record_at, AreApart, standing, at-begun}
+use Rattle.room_history.proofs.BegunLemmas.{Fits, says, record_at, AreApart, standing, at-begun, says_none}
 use Rattle.room_history.proofs.FitLemmas.{Stands, AreGood, all_good, admitted_at, fit, below, few_tombs}
 use Rattle.room_history.proofs.GoneLemmas.{start_is, dead_is}
 use Rattle.room_history.proofs.NextLemmas.{each_found, lists_of, long, walked}
@@ -53,13 +53,6 @@ at-with_saved m r q =
       | None ↦ refl
       | Some id ↦ at-with_key m id q (data_of r.record)
     ]
-
-says_none : (r : SavedRecord) (rs : List SavedRecord) (q : List ℕ) → AreApart (r ∷ rs) → says q r ≡ true → record_at rs q ≡ None
-says_none r rs q apart is =
-    elim (own_id r) as (λ o. own_id r ≡ o → option_map_or (λ id. ties q id) o false ≡ true → record_at rs q ≡ None) [
-      | None ↦ λ own no. absurd (cc)
-      | Some id ↦ λ own tie. ap (record_at rs) (ties_same q id tie) ∙ apart.0 id own
-    ] refl is
 
 at-saved : (rs : List SavedRecord) (m : Pairs) (q : List ℕ) → AreApart rs → value_at (fold with_saved m rs) q ≡ option_map_or (λ r. Some (data_of r.record)) (record_at rs q) (value_at m q)
 at-saved [] m q apart = refl
@@ -76,10 +69,6 @@ rising-saved [] m rising = rising
 rising-saved (r ∷ rs) m rising =
     rising-saved rs (with_saved m r)
     (elim (own_id r) as (λ o. AreRising (option_map_or (λ id. with_key m id (data_of r.record)) o m)) [ None ↦ rising | Some id ↦ rising-with_key m id (data_of r.record) rising ])
-
-rising-records_of : (history : History) → AreRising (records_of history)
-rising-records_of [] = tt
-rising-records_of (entry ∷ history) = rising-fold_raw entry.diff (records_of history) (rising-records_of history)
 
 abbrev pub all_sum : (f : Data → ℕ) → List SavedRecord → ℕ
 all_sum f [] = 0
@@ -110,11 +99,11 @@ module _ (s : SchemaTree) (f : Data → ℕ) (total : Pairs → ℕ) (is : IsTot
       at-with_key m id q d ∙ ap (λ b. cond b (Some d) (value_at m q)) other ∙ new q x (ap (λ b. cond b (Some r) (record_at rs q)) (says_it q ∙ other) ∙ at)) in
       ap (λ x. total (fold with_saved x rs)) added ∙ ih ∙ (let whole : total (with_key m id d) + all_sum f rs ≡ total m + all_sum f (r ∷ rs) = omega arith in whole)
 
-sums : (f : Data → ℕ) (rs : List SavedRecord) → all_sum f rs ≡ sum (map (λ r. f (data_of r.record)) rs)
+pub sums : (f : Data → ℕ) (rs : List SavedRecord) → all_sum f rs ≡ sum (map (λ r. f (data_of r.record)) rs)
 sums f [] = refl
 sums f (r ∷ rs) = ap (λ n. f (data_of r.record) + n) (sums f rs) ∙ sym (sum_by-cons (λ x. x) (f (data_of r.record)) (map (λ r. f (data_of r.record)) rs))
 
-ones : (rs : List SavedRecord) → all_sum (λ d. 1) rs ≡ length rs
+pub ones : (rs : List SavedRecord) → all_sum (λ d. 1) rs ≡ length rs
 ones [] = refl
 ones (r ∷ rs) = let ih = ones rs in omega arith
 
@@ -126,21 +115,6 @@ module _ (test : List ℕ → Bool) where
   none_passes : (m : Pairs) → Each (λ (e : List ℕ × Data). test e.0 ≡ false) m → filter (λ e. test e.0) m ≡ []
   none_passes [] each = refl
   none_passes (e ∷ m) each = ap (λ b. cond b (e ∷ filter (λ e. test e.0) m) (filter (λ e. test e.0) m)) each.0 ∙ none_passes m each.1
-
--- an id of the document is that of no presence
-no_presence : (o : Option Scope) → is_of_document o ≡ true → is_of_presence o ≡ false
-no_presence None is = absurd (cc)
-no_presence (Some Document) is = refl
-no_presence (Some Session) is = absurd (cc)
-no_presence (Some Presence) is = absurd (cc)
-
-both_left : (a b : Bool) → a && b ≡ true → a ≡ true
-both_left true b is = refl
-both_left false b is = is
-
-both_right : (a b : Bool) → a && b ≡ true → b ≡ true
-both_right true b is = is
-both_right false b is = absurd (cc)
 
 module _ (s : SchemaTree) (last : ℤ) (saved : SavedRoom) (are : Stands (decided s) last saved) where
   abbrev D : List SavedRecord
@@ -190,7 +164,7 @@ module _ (s : SchemaTree) (last : ℤ) (saved : SavedRoom) (are : Stands (decide
   documents = all_pass (is_document s) M each_document
 
   no_presences : records_with (is_presence s) (records_of (begun saved)) ≡ []
-  no_presences = none_passes (is_presence s) M (each-imp (λ (e : List ℕ × Data). is_document s e.0 ≡ true) (λ e. is_presence s e.0 ≡ false) (λ e is. no_presence (scope_of s e.0) is) M each_document)
+  no_presences = none_passes (is_presence s) M (each-imp (λ (e : List ℕ × Data). is_document s e.0 ≡ true) (λ e. is_presence s e.0 ≡ false) (λ e is. document_apart s e.0 is) M each_document)
 
   size_is : size_in saved ≡ size_of (is_document s) (records_of (begun saved))
   size_is =

@@ -19,6 +19,7 @@ use Rattle.rooms_val.proofs.MapsLemmas.{ties_flip, ties_same}
 use Rattle.room_model.specs.Histories.{History, records_of, names, last_clocks, dead, changed_after, start_of}
 use Rattle.room_model.proofs.HistoryLemmas.{Each, each-imp, each-filter, each-append, last_within}
 use Rattle.room_model.proofs.LookUpLemmas.{unnamed}
+use Rattle.room_model.proofs.ActingLemmas.{or_right}
 use Rattle.room_history.specs.Keeps.{Keeps, KeepsSome, change_at, present_ids}
 use Rattle.room_history.specs.Marks.{is_listed}
 use Rattle.room_history.specs.declared.kept.Kept.{Kept}
@@ -45,10 +46,6 @@ module _ (first : ℕ) (history : History) (kept : Kept) (keeps : Keeps first hi
 -- an id is among ids with clocks
 abbrev among : List ℕ → List (List ℕ × ℕ) → Bool
 among q ps = list_any (λ p. ties p.0 q) ps
-
-or_right : (a b : Bool) → b ≡ true → a || b ≡ true
-or_right true b is = refl
-or_right false b is = is
 
 among-append : (q : List ℕ) (ps rs : List (List ℕ × ℕ)) → among q (ps ++ rs) ≡ among q ps || among q rs
 among-append q [] rs = refl

@@ -6,12 +6,12 @@ use Rattle.circular_buffer.proofs.heap.HeapCircularBuffer.TheSendSync as HeapCir
 use Rattle.doc_store.specs.contracts.journal.Entry as Journal
 use Rattle.doc_store.specs.contracts.map_doc.MapDoc as MapDoc
 use Rattle.doc_store.specs.contracts.slots.Slots as Slots
-use Rattle.migrate_seq.specs.contracts.migration.Migration as Migration
-use Rattle.migrate_seq.specs.contracts.migration.Sequence as Sequence
+use Rattle.migrate_steps.specs.contracts.migration.Migration as Migration
+use Rattle.migrate_steps.specs.contracts.migration.Sequence as Sequence
 use Rattle.migrate_seq.specs.contracts.sequences.Sequences as Sequences
-use Rattle.migrate_seq.specs.contracts.step.MigStep as MigStep
-use Rattle.migrate_seq.proofs.migration.Filter.TheSendSync as Filter
-use Rattle.migrate_seq.proofs.migration.MigScope.TheSendSync as MigScope
+use Rattle.migrate_steps.specs.contracts.step.MigStep as MigStep
+use Rattle.migrate_steps.proofs.migration.Filter.TheSendSync as Filter
+use Rattle.migrate_steps.proofs.migration.MigScope.TheSendSync as MigScope
 use Rattle.record_valid.specs.contracts.tree.Check as Check
 use Rattle.record_valid.proofs.check_table.Checks.TheLaws.TheKnot as checks
 use Rattle.record_valid.proofs.texts.Texts.TheSendSync as Texts

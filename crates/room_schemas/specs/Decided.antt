@@ -3,7 +3,7 @@ use Rattle.std.specs.Prelude.{ℕ, List, Bool, true, false, if◌then◌else◌,
 use Rattle.rooms_val.specs.Data.{Data}
 use Rattle.migrate_seq.specs.Versions.{Versions}
 use Rattle.migrate_seq.specs.Plans.{migrations_at, plan_answer, newest_versions, are_both_ways}
-use Rattle.migrate_seq.specs.Records.{raised_along, lowered_along}
+use Rattle.migrate_steps.specs.Records.{raised_along, lowered_along}
 use Rattle.migrate_seq.specs.declared.fault.PlanFault.{PlanFault}
 use Rattle.schema_core.specs.Admits.{is_admitted, is_document, scope_of}
 use Rattle.schema_core.specs.Tree.{SchemaTree}

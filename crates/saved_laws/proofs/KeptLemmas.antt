@@ -1,9 +1,8 @@
 -- In a room that calls make the first start isn't above the clock, and the document is within the limits and admitted.
-use Rattle.std.proofs.Common.{◌≡◌, ℕ, ◌+◌, ◌≤◌, nat_abs, nat_le, nat_lt, pos, Bool, true, false, ◌&&◌, ◌||◌, cond, List, [], ◌∷◌, length, map, sum, Option, Some, None, is_some, refl, sym, ap, subst, ◌∙◌, arith}
+use Rattle.std.proofs.Common.{◌≡◌, ℕ, ◌≤◌, nat_abs, nat_le, nat_lt, pos, Bool, true, false, ◌&&◌, ◌||◌, cond, List, [], ◌∷◌, length, map, sum, Option, Some, None, is_some, refl, sym, ap, subst, ◌∙◌, arith}
 use Rattle.std.specs.Option.{option_map_or}
 use Rattle.std.proofs.lemmas.Bool.Decides.{nat_tests}
 use Rattle.std.proofs.lemmas.Int.{ints}
-use Rattle.std.proofs.lemmas.List.Sums.{sum_by-cons}
 use Rattle.rooms_val.specs.Data.{Data, Pairs}
 use Rattle.rooms_val.specs.Maps.{value_at, set_at, ties, added, AreRising}
 use Rattle.rooms_val.specs.View.{data_of}
@@ -35,7 +34,7 @@ use Rattle.std.specs.Option.{option_and_then}
 use Rattle.room_history.specs.Loads.{records_in}
 use Rattle.room_history.proofs.FitLemmas.{Stands, stands, all_good, fit}
 use Rattle.room_history.proofs.NextLemmas.{long}
-use Rattle.room_history.proofs.StandLemmas.{all_sum, grown, records_are, admitted_one}
+use Rattle.room_history.proofs.StandLemmas.{grown, records_are, admitted_one, sums, ones}
 
 -- a document is within the limits, and each of its records is admitted
 pub record AreFit (schemas : Schemas) (m : Pairs) : Type 0 where
@@ -160,14 +159,6 @@ module _ (schemas : Schemas) where
         (λ r readonly sound. record { began = sound.began; fits = sound.fits })
         (λ r n s sent plan said push some says at is taken sound. push_fits r n s plan push (push_rises said push says (subst TakenRises some rises)) sound))
         room h
-
-sums : (f : Data → ℕ) (rs : List SavedRecord) → all_sum f rs ≡ sum (map (λ r. f (data_of r.record)) rs)
-sums f [] = refl
-sums f (r ∷ rs) = ap (λ n. f (data_of r.record) + n) (sums f rs) ∙ sym (sum_by-cons (λ x. x) (f (data_of r.record)) (map (λ r. f (data_of r.record)) rs))
-
-ones : (rs : List SavedRecord) → all_sum (λ d. 1) rs ≡ length rs
-ones [] = refl
-ones (r ∷ rs) = let ih = ones rs in omega arith
 
 two_false : (a b c : Bool) → a || b || c ≡ false → (a ≡ false) × (b ≡ false)
 two_false true b c is = absurd (cc)

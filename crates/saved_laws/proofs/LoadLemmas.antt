@@ -34,6 +34,7 @@ use Rattle.room_model.proofs.BaseLemmas.{rising-records}
 use Rattle.room_model.proofs.HistoryLemmas.{Each, each-imp, at_most-filter, few_dead, start_within}
 use Rattle.room_model.proofs.LookUpLemmas.{at-filter, rising-filter, unnamed}
 use Rattle.room_history.specs.Saving.{IsSavedOf, with_own_id, clocks_of}
+use Rattle.room_history.proofs.CheckLemmas.{among-keys}
 use Rattle.saved_laws.proofs.KeptLemmas.{IsSound, cond_none, sound}
 use Rattle.saved_laws.proofs.SavedLemmas.{AreOf, IsDead, none_some, none_ties, records_are, tombs_few, tomb_says, length-are, weight-are, sorted_clocks, rising-sorted, at-sorted, at-tests, length-sorted}
 
@@ -106,10 +107,6 @@ module _ (schemas : Schemas) (last : List ℕ → ℕ) where
 each_new : (ps : Pairs) → Each (λ p. is_among [] p.0 ≡ false) ps
 each_new [] = tt
 each_new (p ∷ ps) = (refl, each_new ps)
-
-among-keys : (m : Pairs) (q : List ℕ) → is_among (keys_of m) q ≡ is_some (value_at m q)
-among-keys [] q = refl
-among-keys (e ∷ es) q = ap (λ b. b || is_among (keys_of es) q) (ties_flip e.0 q) ∙ elim (ties q e.0) as (λ b. b || is_among (keys_of es) q ≡ is_some (cond b (Some e.1) (value_at es q))) [ true ↦ refl | false ↦ among-keys es q ]
 
 -- what a tombstone of a room has
 module _ (schemas : Schemas) (start clock : ℕ) where

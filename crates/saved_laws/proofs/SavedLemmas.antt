@@ -1,5 +1,5 @@
 -- What is saved of a sound room, one record and one removed id after the other.
-use Rattle.std.proofs.Common.{◌≡◌, ℕ, suc, ◌+◌, ◌≤◌, ◌<◌, nat_lt, ℤ, pos, Bool, true, false, ◌||◌, cond, not, List, [], ◌∷◌, length, map, sum, filter, Option, Some, None, is_some, is_eq, Less, Equal, Greater, refl, sym, ap, subst, ◌∙◌, arith}
+use Rattle.std.proofs.Common.{◌≡◌, ℕ, suc, ◌+◌, ◌≤◌, ◌<◌, nat_lt, ℤ, pos, Bool, true, false, ◌||◌, cond, List, [], ◌∷◌, length, map, sum, filter, Option, Some, None, is_some, Less, Equal, Greater, refl, sym, ap, subst, ◌∙◌, arith}
 use Rattle.std.specs.Prelude.{is_none}
 use Rattle.std.specs.FinMap.Entries.{by_order}
 use Rattle.std.specs.Option.{option_map_or}
@@ -9,18 +9,19 @@ use Rattle.rooms_val.specs.Data.{Data, Pairs}
 use Rattle.rooms_val.specs.Maps.{value_at, with_key, ties, order, AreRising}
 use Rattle.rooms_val.specs.View.{data_of}
 use Rattle.rooms_val.specs.Weight.{weight}
-use Rattle.rooms_val.proofs.MapsLemmas.{at-with_key, rising-with_key, same_pairs, ties_same, order_itself}
-use Rattle.room_model.specs.Histories.{History, records_of, names, last_clock, last_clocks, changed_after, start_of, dead}
+use Rattle.rooms_val.proofs.MapsLemmas.{at-with_key, rising-with_key, same_pairs, ties_same}
+use Rattle.room_model.specs.Histories.{History, records_of, last_clock, last_clocks, changed_after, start_of, dead}
 use Rattle.room_model.specs.Saves.{own_id}
 use Rattle.room_model.specs.Schemas.{records_with}
 use Rattle.room_model.specs.declared.limits.TheConstants.{MOST_DEAD}
 use Rattle.room_model.specs.declared.saved.SavedRecord.{SavedRecord}
 use Rattle.room_model.specs.declared.saved.SavedRoom.{SavedRoom}
 use Rattle.room_model.specs.declared.saved.SavedTomb.{SavedTomb}
-use Rattle.room_model.proofs.HistoryLemmas.{Each, each-imp, each-two, each-filter, each-passes, each-append, at_most-filter, last_within, few_dead}
+use Rattle.room_model.proofs.HistoryLemmas.{Each, each-two, each-filter, each-passes, at_most-filter, last_within, few_dead}
 use Rattle.room_model.proofs.LookUpLemmas.{at-filter, has, has-changed}
 use Rattle.room_history.specs.Saving.{IsSavedOf, with_own_id, clocks_of}
 use Rattle.room_history.proofs.BegunLemmas.{says, record_at, tomb_at}
+use Rattle.room_history.proofs.SavingLemmas.{last_are}
 use Rattle.saved_laws.proofs.KeptLemmas.{cond_none}
 
 some_is : {X : Type 0} (x y : X) → ◌≡◌ {A = Option X} (Some x) (Some y) → x ≡ y
@@ -30,15 +31,6 @@ pub none_some : {X Y : Type 0} (y : Y) → ◌≡◌ {A = Option Y} None (Some y
 none_some y is = let never = ap is_some is in absurd (cc)
 
 module _ {V : Type 0} where
-  -- each key of a map is there
-  each_there : (es : List (List ℕ × V)) → Each (λ e. is_some (value_at es e.0) ≡ true) es
-  each_there [] = tt
-  each_there (e ∷ es) =
-      let P : List ℕ × V → Type 0 = λ p. is_some (value_at es p.0) ≡ true in
-      let Q : List ℕ × V → Type 0 = λ p. is_some (value_at (e ∷ es) p.0) ≡ true in
-      let still : (p : List ℕ × V) → P p → Q p = λ p is. elim (ties p.0 e.0) as (λ b. is_some (cond b (Some e.1) (value_at es p.0)) ≡ true) [ true ↦ refl | false ↦ is ] in
-      (ap (λ o. is_some (cond (is_eq o) (Some e.1) (value_at es e.0))) (order_itself e.0), each-imp P Q still es (each_there es))
-
   -- nothing stands under a key that none of the map's is
   pub none_ties : (es : List (List ℕ × V)) (q : List ℕ) → value_at es q ≡ None → Each (λ e. ties q e.0 ≡ false) es
   none_ties [] q none = tt
@@ -66,23 +58,6 @@ module _ {V : Type 0} where
   length-with_key (e ∷ es) k v =
       let ih = length-with_key es k v in
       elim (order k e.0) as (λ o. length (by_order o ((k, v) ∷ e ∷ es) ((e.0, v) ∷ es) (e ∷ with_key es k v)) ≤ suc (suc (length es))) [ Less ↦ omega arith | Equal ↦ omega arith | Greater ↦ omega arith ]
-
-each_mapped : {X Y : Type 0} (P : Y → Type 0) (f : X → Y) (xs : List X) → Each (λ x. P (f x)) xs → Each P (map f xs)
-each_mapped P f [] h = tt
-each_mapped P f (x ∷ xs) h = (h.0, each_mapped P f xs h.1)
-
--- each id is listed with its last clock
-last_are : (history : History) → Each (λ p. p.1 ≡ last_clock history p.0) (last_clocks history)
-last_are [] = tt
-last_are (entry ∷ history) =
-    let n = suc (length history) in
-    let P : List ℕ × ℕ → Type 0 = λ p. p.1 ≡ last_clock (entry ∷ history) p.0 in
-    let unnamed : (p : List ℕ × ℕ) → not (names p.0 entry) ≡ true → p.1 ≡ last_clock history p.0 → P p =
-    λ p out is. is ∙ elim (names p.0 entry) as (λ b. not b ≡ true → last_clock history p.0 ≡ cond b n (last_clock history p.0)) [ true ↦ λ bad. absurd (cc) | false ↦ λ fine. refl ] out in
-    each-append P _ _
-    (each-two (λ p. not (names p.0 entry) ≡ true) (λ p. p.1 ≡ last_clock history p.0) P unnamed (filter (λ p. not (names p.0 entry)) (last_clocks history))
-    (each-passes (λ p. not (names p.0 entry)) (last_clocks history)) (each-filter (λ p. p.1 ≡ last_clock history p.0) (λ p. not (names p.0 entry)) (last_clocks history) (last_are history)))
-    (each_mapped P (λ c. (c.0, n)) entry.diff (each-imp (λ c. is_some (value_at entry.diff c.0) ≡ true) (λ c. n ≡ last_clock (entry ∷ history) c.0) (λ c is. sym (ap (λ b. cond b n (last_clock history c.0)) is)) entry.diff (each_there entry.diff)))
 
 -- what a remembered id has: it is gone, and its last clock is its own, above the start
 pub record IsDead (start : ℕ) (history : History) (id : List ℕ) (clock : ℕ) : Type 0 where

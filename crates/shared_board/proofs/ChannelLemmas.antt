@@ -1,5 +1,5 @@
 -- The channels of a world: how many an event leaves, and that nothing moves in one that isn't there.
-use Rattle.std.proofs.Common.{◌≡◌, ℕ, suc, ◌<◌, ◌≤◌, nat_le, ◌||◌, cond, Bool, true, false, [], ◌∷◌, ◌++◌, length, drop, slice_get, Option, Some, None, Ok, Err, refl, sym, subst, ◌∙◌, arith}
+use Rattle.std.proofs.Common.{◌≡◌, ℕ, suc, ◌<◌, ◌≤◌, nat_le, cond, Bool, true, false, [], ◌∷◌, ◌++◌, length, drop, slice_get, Option, Some, None, Ok, Err, refl, sym, subst, ◌∙◌, arith}
 use Rattle.std.specs.Option.{option_map_or}
 use Rattle.std.proofs.lemmas.Bool.Decides.{nat_tests}
 use Rattle.room_model.specs.Schemas.{WorldSchemas}
@@ -18,17 +18,13 @@ use Rattle.world_laws.proofs.EventLemmas.{Holds, from_option}
 use Rattle.world_laws.proofs.PushLemmas.{long-set, long-added}
 use Rattle.world_laws.proofs.QueueLemmas.{queues_go_on}
 use Rattle.world_laws.proofs.SessionLemmas.{sessions_stand}
+use Rattle.world_laws.proofs.PresenceLemmas.{or_second as second_not}
 use Rattle.world_queues.specs.Queues.{to_client}
 use Rattle.sync_world.specs.Standing as world_of
 use Rattle.sync_world.specs.declared.world.World as code_of
 use Rattle.sync_world.proofs.ListLemmas.{got_none}
 use Rattle.shared_board.specs.Apart.{IsApart}
 use Rattle.shared_board.specs.Moving.{IsRefused}
-
--- the second of two of which neither holds
-second_not : (a b : Bool) → a || b ≡ false → b ≡ false
-second_not true b is = absurd (cc)
-second_not false b is = is
 
 module _ (schemas : WorldSchemas EditFault) (w : World) where
   -- an event by which nobody connects leaves as many queues

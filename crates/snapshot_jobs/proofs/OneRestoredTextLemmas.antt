@@ -6,12 +6,12 @@ use Rattle.rooms_val.specs.Json.{value_of}
 use Rattle.rooms_val.specs.Maps.{seen}
 use Rattle.fault_texts.specs.Texts.{val_fault_text, line_fault_text, snap_fault_text, plan_fault_text, load_fault_text, bad_record_text}
 use Rattle.migrate_seq.specs.Plans.{migrations_at, plan_answer}
-use Rattle.migrate_seq.specs.Records.{migrated, raised_along, raised_map}
+use Rattle.migrate_steps.specs.Records.{migrated, raised_along, raised_map}
 use Rattle.migrate_seq.specs.Versions.{Versions}
 use Rattle.migrate_seq.specs.declared.fault.PlanFault.{PlanFault}
-use Rattle.migrate_seq.specs.declared.migration.Migration.{Migration}
+use Rattle.migrate_steps.specs.declared.migration.Migration.{Migration}
 use Rattle.migrate_seq.specs.declared.place.Place.{Place}
-use Rattle.migrate_seq.specs.declared.step.Way.TheVariants.{Up}
+use Rattle.migrate_steps.specs.declared.step.Way.TheVariants.{Up}
 use Rattle.peer_schemas.specs.Clients.{schemas_of}
 use Rattle.peer_schemas.proofs.RoomLemmas.{same_decided, same_schemas}
 use Rattle.rec_format.specs.Events.{header_val}

@@ -23,14 +23,14 @@ use Rattle.rooms_val.proofs.MapsLemmas.{rising-with_key}
 use Rattle.fault_texts.specs.Texts.{val_fault_text, plan_fault_text, load_fault_text, bad_record_text}
 use Rattle.migrate_seq.specs.Order.{first_some}
 use Rattle.migrate_seq.specs.Plans.{migrations_at, plan_of, version_fault, first_fault}
-use Rattle.migrate_seq.specs.Records.{migrated, raised_map}
+use Rattle.migrate_steps.specs.Records.{migrated, raised_map}
 use Rattle.migrate_seq.specs.Versions.{Versions, versions_in, numbers_of, schema_of}
 use Rattle.migrate_seq.specs.declared.fault.PlanFault.{PlanFault}
 use Rattle.migrate_seq.specs.declared.fault.PlanFault.TheVariants as plan
-use Rattle.migrate_seq.specs.declared.migration.Migration.{Migration}
-use Rattle.migrate_seq.specs.declared.migration.Sequence.{Sequence}
+use Rattle.migrate_steps.specs.declared.migration.Migration.{Migration}
+use Rattle.migrate_steps.specs.declared.migration.Sequence.{Sequence}
 use Rattle.migrate_seq.specs.declared.place.Place.{Place}
-use Rattle.migrate_seq.specs.declared.step.Way.TheVariants.{Up}
+use Rattle.migrate_steps.specs.declared.step.Way.TheVariants.{Up}
 use Rattle.migrate_seq.proofs.Numbers.{versions_in-numbers_of}
 use Rattle.peer_schemas.specs.Clients.{schemas_of}
 use Rattle.rec_format.specs.declared.read.TheConstants as format

@@ -7,7 +7,7 @@ use Rattle.room_model.specs.Reachable.{is_over}
 use Rattle.room_model.specs.Rooms as model
 use Rattle.room_model.specs.Schemas.{presence_id}
 use Rattle.room_messages.specs.Present.{ArePresencesOf}
-use Rattle.room_messages.proofs.LawfulLemmas.{no_document}
+use Rattle.room_schemas.proofs.ApartLemmas.{presence_apart}
 use Rattle.sync_room.specs.Standing.{Stands, tree_of}
 use Rattle.sync_room.specs.declared.room.Room.{Room}
 use Rattle.sync_room.specs.declared.session.Session.{Session}
@@ -29,7 +29,7 @@ not_gone model.gone is = is
 pub presences_of : (state : model.Room) (room : Room) (numbers : List ℕ) → Stands state room → numbers ≡ map (λ entry. entry.1.number) (entries room.sessions.present)
     → ArePresencesOf (tree_of room) numbers (records_of state.history)
 presences_of state room numbers h are id presence there =
-    let owner = h.presences id (no_document (tree_of room) id presence) there in
+    let owner = h.presences id (presence_apart (tree_of room) id presence) there in
     let place = h.agrees.sessions.there owner.number owner.session owner.at (not_gone owner.session.phase owner.unended) in
     let among = (Contains-entries room.sessions.present place.0 place.1).1 place.2 in
     let number = mapped (λ (entry : ℕ × Session). entry.1.number) (entries room.sessions.present) among.0 (place.0, place.1) among.1 among.2 in

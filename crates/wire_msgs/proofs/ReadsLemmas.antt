@@ -15,10 +15,10 @@ use Rattle.wire_msgs.proofs.ClientLemmas as clients
 use Rattle.wire_msgs.proofs.OneEachLemmas.{one_client, one_server}
 use Rattle.wire_msgs.proofs.ServerLemmas as servers
 
-ok_same : {T E : Type 0} (r : Result T E) (x y : T) → r ≡ Ok x → r ≡ Ok y → x ≡ y
+pub ok_same : {T E : Type 0} (r : Result T E) (x y : T) → r ≡ Ok x → r ≡ Ok y → x ≡ y
 ok_same r x y is_x is_y = let is : Ok x ≡ Ok y = sym is_x ∙ is_y in cc
 
-no_ok : {T E : Type 0} {A : Type 0} (r : Result T E) (x : T) (e : E) → r ≡ Ok x → r ≡ Err e → A
+pub no_ok : {T E : Type 0} {A : Type 0} (r : Result T E) (x : T) (e : E) → r ≡ Ok x → r ≡ Err e → A
 no_ok r x e is_ok is_err = absurd (let is : Ok x ≡ Err e = sym is_ok ∙ is_err in cc)
 
 -- the value of a message has no fault in its keys

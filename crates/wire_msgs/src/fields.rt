@@ -2,26 +2,17 @@
 ghost use Rattle.std.specs.Prelude.{◌≡◌, IfOk, codes};
 ghost use Rattle.rooms_val.specs.Data.{text};
 ghost use Rattle.rooms_val.specs.Maps.{with_key, added};
-ghost use Rattle.rooms_val.specs.View.{data_of};
 ghost use Rattle.wire_msgs.specs.Messages.{maybe_diff, maybe_op};
 
 use field_ops::{Diff, RecordOp, diff_val, op_val};
 use rooms_val::{Fields, Mem, Text, Val};
 use std::alloc::Global;
 
-/// The map with a further field.
-pub(crate) fn with(alloc: Global, mut fields: Fields, key: &str, val: Val) -> Mem<Fields>
-    ensures { IfOk result (λ made. made ≡ with_key fields key.now (data_of val)) }
-{
-    drop(fields.put(Text::of(alloc, key)?, val)?);
-    Ok(fields)
-}
-
 /// The map with a type.
 pub(crate) fn with_type(alloc: Global, fields: Fields, word: &str) -> Mem<Fields>
     ensures { IfOk result (λ made. made ≡ with_key fields (codes "type") (text word.now)) }
 {
-    with(alloc, fields, "type", Val::Text(Text::of(alloc, word)?))
+    fields.with(alloc, "type", Val::Text(Text::of(alloc, word)?))
 }
 
 /// The map with a diff, where there is one.
@@ -29,7 +20,7 @@ pub(crate) fn with_diff(alloc: Global, fields: Fields, diff: &Option<Diff>) -> M
     ensures { IfOk result (λ made. made ≡ added fields (codes "diff") (maybe_diff diff.now)) }
 {
     match diff {
-        Some(diff) => with(alloc, fields, "diff", diff_val(alloc, diff)?),
+        Some(diff) => fields.with(alloc, "diff", diff_val(alloc, diff)?),
         None => Ok(fields),
     }
 }
@@ -39,7 +30,7 @@ pub(crate) fn with_presence(alloc: Global, fields: Fields, op: &Option<RecordOp>
     ensures { IfOk result (λ made. made ≡ added fields (codes "presence") (maybe_op op.now)) }
 {
     match op {
-        Some(op) => with(alloc, fields, "presence", op_val(alloc, op)?),
+        Some(op) => fields.with(alloc, "presence", op_val(alloc, op)?),
         None => Ok(fields),
     }
 }

@@ -8,7 +8,7 @@ ghost use Rattle.sync_msgs.specs.declared.data_event.DataEvent.TheVariants as ev
 ghost use Rattle.wire_msgs.specs.Events.{action_val, event_fields, event_val};
 ghost use Rattle.wire_msgs.specs.Messages.{client_fields, server_fields, hydration_word};
 
-use crate::fields::{with, with_diff, with_presence, with_type};
+use crate::fields::{with_diff, with_presence, with_type};
 use field_ops::{Diff, RecordOp, diff_val};
 use rooms_val::{Fields, Mem, Text, Val, Vals};
 use std::alloc::Global;
@@ -26,20 +26,10 @@ pub(crate) fn client_fields(alloc: Global, message: &ClientMessage) -> Mem<Field
             schema,
         } => {
             let request = Val::Text(connect_request_id.copy(alloc)?);
-            let fields = with(alloc, Fields::new(alloc), "connectRequestId", request)?;
-            let fields = with(
-                alloc,
-                fields,
-                "lastServerClock",
-                Val::Int(*last_server_clock),
-            )?;
-            let fields = with(
-                alloc,
-                fields,
-                "protocolVersion",
-                Val::Int(*protocol_version),
-            )?;
-            let fields = with(alloc, fields, "schema", schema.val(alloc)?)?;
+            let fields = Fields::new(alloc).with(alloc, "connectRequestId", request)?;
+            let fields = fields.with(alloc, "lastServerClock", Val::Int(*last_server_clock))?;
+            let fields = fields.with(alloc, "protocolVersion", Val::Int(*protocol_version))?;
+            let fields = fields.with(alloc, "schema", schema.val(alloc)?)?;
             with_type(alloc, fields, "connect")
         }
         ClientMessage::Push {
@@ -60,12 +50,7 @@ fn push_fields(
     ensures { IfOk result (λ fields.
         fields ≡ client_fields (client.Push client_clock diff.now presence.now)) }
 {
-    let fields = with(
-        alloc,
-        Fields::new(alloc),
-        "clientClock",
-        Val::Int(client_clock),
-    )?;
+    let fields = Fields::new(alloc).with(alloc, "clientClock", Val::Int(client_clock))?;
     let fields = with_diff(alloc, fields, diff)?;
     let fields = with_presence(alloc, fields, presence)?;
     with_type(alloc, fields, "push")
@@ -87,24 +72,18 @@ pub(crate) fn server_fields(alloc: Global, message: &ServerMessage) -> Mem<Field
         } => {
             let request = Val::Text(connect_request_id.copy(alloc)?);
             let keeps = Val::Text(Text::of(alloc, hydration_word(*hydration_type))?);
-            let fields = with(alloc, Fields::new(alloc), "connectRequestId", request)?;
-            let fields = with(alloc, fields, "diff", diff_val(alloc, diff)?)?;
-            let fields = with(alloc, fields, "hydrationType", keeps)?;
-            let fields = with(alloc, fields, "isReadonly", Val::Bool(*is_readonly))?;
-            let fields = with(
-                alloc,
-                fields,
-                "protocolVersion",
-                Val::Int(*protocol_version),
-            )?;
-            let fields = with(alloc, fields, "schema", schema.val(alloc)?)?;
-            let fields = with(alloc, fields, "serverClock", Val::Int(*server_clock))?;
+            let fields = Fields::new(alloc).with(alloc, "connectRequestId", request)?;
+            let fields = fields.with(alloc, "diff", diff_val(alloc, diff)?)?;
+            let fields = fields.with(alloc, "hydrationType", keeps)?;
+            let fields = fields.with(alloc, "isReadonly", Val::Bool(*is_readonly))?;
+            let fields = fields.with(alloc, "protocolVersion", Val::Int(*protocol_version))?;
+            let fields = fields.with(alloc, "schema", schema.val(alloc)?)?;
+            let fields = fields.with(alloc, "serverClock", Val::Int(*server_clock))?;
             with_type(alloc, fields, "connect")
         }
         ServerMessage::Data { events } => {
-            let fields = with(
+            let fields = Fields::new(alloc).with(
                 alloc,
-                Fields::new(alloc),
                 "data",
                 Val::List(events_val(alloc, events)?),
             )?;
@@ -141,8 +120,8 @@ fn event_fields(alloc: Global, event: &DataEvent) -> Mem<Fields>
 {
     match event {
         DataEvent::Patch { diff, server_clock } => {
-            let fields = with(alloc, Fields::new(alloc), "diff", diff_val(alloc, diff)?)?;
-            let fields = with(alloc, fields, "serverClock", Val::Int(*server_clock))?;
+            let fields = Fields::new(alloc).with(alloc, "diff", diff_val(alloc, diff)?)?;
+            let fields = fields.with(alloc, "serverClock", Val::Int(*server_clock))?;
             with_type(alloc, fields, "patch")
         }
         DataEvent::PushResult {
@@ -151,9 +130,9 @@ fn event_fields(alloc: Global, event: &DataEvent) -> Mem<Fields>
             action,
         } => {
             let action = action_val(alloc, action)?;
-            let fields = with(alloc, Fields::new(alloc), "action", action)?;
-            let fields = with(alloc, fields, "clientClock", Val::Int(*client_clock))?;
-            let fields = with(alloc, fields, "serverClock", Val::Int(*server_clock))?;
+            let fields = Fields::new(alloc).with(alloc, "action", action)?;
+            let fields = fields.with(alloc, "clientClock", Val::Int(*client_clock))?;
+            let fields = fields.with(alloc, "serverClock", Val::Int(*server_clock))?;
             with_type(alloc, fields, "push_result")
         }
     }
@@ -168,7 +147,7 @@ fn action_val(alloc: Global, action: &Action) -> Mem<Val>
         Action::Discard => Ok(Val::Text(Text::of(alloc, "discard")?)),
         Action::Rebase(diff) => {
             let diff = diff_val(alloc, diff)?;
-            Ok(Val::Map(with(alloc, Fields::new(alloc), "rebaseWithDiff", diff)?))
+            Ok(Val::Map(Fields::new(alloc).with(alloc, "rebaseWithDiff", diff)?))
         }
     }
 }

@@ -17,6 +17,7 @@ use Rattle.world_laws.proofs.PushLemmas.{each_set, each_added, got_split, got_ol
 use Rattle.world_laws.proofs.RoomLemmas.{Gives, tells_end, answers, pongs, tells, drain_gives}
 use Rattle.world_laws.proofs.SessionLemmas.{sessions_stand, IsLess, notice_less, act_less}
 use Rattle.world_laws.proofs.RequestLemmas.{heard_stand}
+use Rattle.world_laws.proofs.LaterLemmas.{notice_version}
 
 end_data : (notices : List Notice) (reason : EndReason) → HasNoData notices → HasNoData (notices ++ end reason ∷ [])
 end_data [] reason h = tt
@@ -64,19 +65,6 @@ module _ {F : Type 0} (schemas : WorldSchemas F) where
   end_fit ServerTooOld c h = reached_off c (after_end ServerTooOld c) refl refl refl h
   end_fit InvalidRecord c h = reached_off c (after_end InvalidRecord c) refl refl refl h
   end_fit RoomFull c h = reached_off c (after_end RoomFull c) refl refl refl h
-
-  end_version : (reason : EndReason) (c : Client) → (after_end reason c).version ≡ c.version
-  end_version Slow c = refl
-  end_version ClientTooOld c = refl
-  end_version ServerTooOld c = refl
-  end_version InvalidRecord c = refl
-  end_version RoomFull c = refl
-
-  notice_version : (history : History) (k : ℕ) (c : Client) (notice : Notice) → (after_notice history k c notice).client.version ≡ c.version
-  notice_version history k c (snapshot_at clock) = (snapshot_same k clock c).version
-  notice_version history k c (updates_between from to) = refl
-  notice_version history k c pong = refl
-  notice_version history k c (end reason) = end_version reason c
 
   told_fit : (c : Client) (notices : List Notice) → (HasNoData notices → ⊥) → IsTold c notices → IsFit schemas c
   told_fit c notices some h = elim h [ inl fit ↦ fit | inr none ↦ absurd (some none) ]

@@ -37,7 +37,7 @@ use Rattle.world_laws.proofs.PushLemmas.{long-set, long-added}
 use Rattle.world_laws.proofs.SessionLemmas.{message_long, leave_long}
 use Rattle.world_laws.proofs.TurnLemmas.{IsLast, untold, left as is_gone, leave_turns, message_turns}
 
-or_second : (a b : Bool) → a || b ≡ false → b ≡ false
+pub or_second : (a b : Bool) → a || b ≡ false → b ≡ false
 or_second true b is = absurd (cc)
 or_second false b is = is
 

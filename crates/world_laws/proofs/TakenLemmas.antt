@@ -1,5 +1,5 @@
 -- What comes next to a client is what the client expects, and to take it is the delivery.
-use Rattle.std.proofs.Common.{◌≡◌, inl, inr, ℕ, ◌<◌, ◌≤◌, nat_lt, ℤ, pos, negsuc, Bool, true, false, ◌||◌, cond, List, [], ◌∷◌, ◌++◌, length, map, filter, slice_get, Some, None, Ok, Err, Result, refl, sym, ap, subst, ◌∙◌, arith}
+use Rattle.std.proofs.Common.{◌≡◌, inl, inr, ℕ, ◌<◌, ◌≤◌, nat_lt, ℤ, pos, negsuc, Bool, true, false, cond, List, [], ◌∷◌, ◌++◌, length, map, filter, slice_get, Some, None, Ok, Err, Result, refl, sym, ap, subst, ◌∙◌, arith}
 use Rattle.std.proofs.lemmas.Bool.Decides.{nat_tests}
 use Rattle.rooms_val.specs.Data.{Data, Pairs}
 use Rattle.room_model.specs.Schemas.{WorldSchemas, AreLawfulTogether, Plan, Member, records_with, doc, pres, seen_along}
@@ -13,7 +13,7 @@ use Rattle.room_model.specs.Replicas.{Client, is_open, session_of, after_end, af
 use Rattle.room_model.specs.Worlds.{Channel, World, with_channel}
 use Rattle.room_model.specs.declared.connection.Connection.{Connection}
 use Rattle.room_model.specs.declared.connection.Connection.TheVariants.{Off, Asking, Open}
-use Rattle.room_model.proofs.ActingLemmas.{differ}
+use Rattle.room_model.proofs.ActingLemmas.{differ, or_right as or_true}
 use Rattle.room_model.proofs.AnswerLemmas.{answered_before}
 use Rattle.room_model.proofs.BaseLemmas.{rising-records, wiped_all, hydrated, whole_document, whole_presence}
 use Rattle.room_model.proofs.EntryLemmas.{reachable_acts}
@@ -162,10 +162,6 @@ module _ {F : Type 0} (schemas : WorldSchemas F) where
 
   short : (clock : ℕ) (history : History) → clock ≤ length history → length (oldest clock history) ≡ clock
   short clock history less = let h = length-oldest clock history in omega arith
-
-  or_true : (a b : Bool) → b ≡ true → a || b ≡ true
-  or_true true b is = refl
-  or_true false b is = is
 
   snapshot_brings : (admits : List ℕ → Data → Bool) (member : Member) (reached : ℤ) (first clock : ℕ) (history : History) (base : Pairs) → clock ≤ length history
       → base ≡ seen_along schemas.room member.plan (doc schemas.room (records_of (up_to reached history)))

@@ -18,18 +18,14 @@ use Rattle.side_effects.specs.declared.fault.EditFault.{EditFault}
 use Rattle.sync_world.specs.Answers.{Faults, Refuses}
 use Rattle.sync_world.specs.Keeping.{AreKept}
 use Rattle.sync_world.specs.Standing as world_of
-use Rattle.sync_world.specs.Viewing.{stores_of, stores_kept, changed_by, KeepsStores, ChangesOne, MayJoin}
-use Rattle.sync_world.specs.declared.live.WorldClient.{WorldClient}
+use Rattle.sync_world.specs.Viewing.{stores_of, changed_by, KeepsStores, ChangesOne, MayJoin}
 use Rattle.sync_world.specs.declared.world.World.{World}
+use Rattle.sync_world.proofs.ViewingLemmas.{long_stores as stores_long}
 use Rattle.world_views.specs.Views.{Viewed, Stepped, nobody_viewing, tells, told_lines, clients_told, with_joined, shown_by}
 use Rattle.world_views.specs.Standing.{IsViewing, IsQuiet, Keeps, MayTell, After}
 use Rattle.world_views.proofs.StoreLemmas.{shown_are}
 use Rattle.world_views.proofs.TellingLemmas.{maps_of, none_tells, AreQuietBut}
 use Rattle.world_views.proofs.KeepingLemmas.{AreAlike, alike_after, alike_view, one_changed, unchanged, quiet_still, quiet_others, joined_view, joined_quiet}
-
-stores_long : (kept : List WorldClient) → length (stores_kept kept) ≡ length kept
-stores_long [] = refl
-stores_long (k ∷ kept) = ap suc (stores_long kept)
 
 module _ (schemas : WorldSchemas EditFault) where
   -- there are as many stores as clients

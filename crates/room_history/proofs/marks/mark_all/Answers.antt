@@ -4,8 +4,9 @@ use Rattle.change_list.specs.Changes.{listed, AreUpTo}
 use Rattle.std.specs.List.{list_all}
 use Rattle.rooms_val.specs.Maps.{AreRising}
 use Rattle.rooms_val.proofs.MapsLemmas.{none_later, rising_rest}
+use Rattle.room_model.proofs.ActingLemmas.{left as first, right as second}
 use Rattle.room_history.specs.Marks.{Marks, Lists, is_listed, mark_one, mark_all}
-use Rattle.room_history.proofs.ListedLemmas.{first, second, can_mark, latest_after}
+use Rattle.room_history.proofs.ListedLemmas.{can_mark, latest_after}
 use Rattle.room_history.proofs.marks.mark_all.Goals as goal
 
 no_marks : (ms : Marks) → length ms ≡ 0 → ms ≡ []
