@@ -5,3 +5,4 @@ pub mod OwnLemmas
 pub mod NewBaseLemmas
 pub mod ReplicaLemmas
 pub mod TakenLemmas
+pub mod CountLemmas

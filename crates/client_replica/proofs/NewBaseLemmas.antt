@@ -26,19 +26,11 @@ use Rattle.client_replica.specs.Works.{works_in, pushed_diff, event_diff, ended_
 use Rattle.client_replica.specs.Stashes.{under, kept}
 use Rattle.client_replica.specs.NewBases.{laid, IsLaid, AreStepped, HasIdsOf, IsOf, IsAhead}
 use Rattle.client_replica.proofs.PartLemmas.{part-step}
-use Rattle.client_replica.proofs.WorkLemmas.{first_left}
-use Rattle.client_replica.proofs.StashLemmas.{or_flip, or_assoc, exact-kept}
+use Rattle.client_replica.proofs.WorkLemmas.{first_left, or_first as or_true}
+use Rattle.client_replica.proofs.StashLemmas.{or_flip, or_assoc, exact-kept, some_or}
 
 never : (P : Type 0) → false ≡ true → P
 never P is = absurd cc
-
-or_true : (a b : Bool) → a ≡ true → a || b ≡ true
-or_true true b is = refl
-or_true false b is = absurd cc
-
-some_or : {X : Type 0} (t : Bool) (x : X) (o : Option X) → is_some (cond t (Some x) o) ≡ t || is_some o
-some_or true x o = refl
-some_or false x o = refl
 
 -- an id that joins a map
 exact-put : {X : Type 0} (es : List (List ℕ × X)) (k : List ℕ) (v : X) (q : List ℕ) → is_some (value_at (with_key es k v) q) ≡ is_some (value_at es q) || ties q k

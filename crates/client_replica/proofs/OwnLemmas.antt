@@ -33,14 +33,6 @@ pub or_right : (a b : Bool) → a || b ≡ false → b ≡ false
 or_right true b is = absurd cc
 or_right false b is = is
 
-or_true : (a b : Bool) → b ≡ true → a || b ≡ true
-or_true true b is = refl
-or_true false b is = is
-
-some_or : {X : Type 0} (t : Bool) (x : X) (o : Option X) → is_some (cond t (Some x) o) ≡ t || is_some o
-some_or true x o = refl
-some_or false x o = refl
-
 module _ (admits : List ℕ → Data → Bool) where
   pub replay-append : (m : Pairs) (diffs more : List RecordOps) → replay admits m (diffs ++ more) ≡ replay admits (replay admits m diffs) more
   replay-append m [] more = refl

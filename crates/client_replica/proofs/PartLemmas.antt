@@ -5,10 +5,6 @@ use Rattle.rooms_val.specs.Data.{Data, Pairs}
 use Rattle.rooms_val.specs.Maps.{AreRising, value_at, set_at, ties}
 use Rattle.field_ops.specs.RecordOps.{RecordOpTree, RecordOps}
 use Rattle.rooms_val.proofs.MapsLemmas.{by_tie, same_pairs}
-use Rattle.schema_core.specs.Tree.{SchemaTree}
-use Rattle.schema_core.specs.Admits.{scope_of, is_document, is_of_document}
-use Rattle.schema_core.specs.declared.row.Scope.{Scope}
-use Rattle.schema_core.specs.declared.row.Scope.TheVariants.{Document, Session, Presence}
 use Rattle.std.specs.Prelude.{unwrap_or}
 use Rattle.rooms_val.specs.declared.val.Val.{Val}
 use Rattle.field_ops.specs.View.{maybe_data}
@@ -19,7 +15,6 @@ use Rattle.doc_model.proofs.InverseLemmas.{at-step_at, rising-step}
 use Rattle.room_model.specs.Schemas.{records_with}
 use Rattle.room_model.proofs.LookUpLemmas.{at-filter, rising-filter}
 use Rattle.client_replica.specs.Parts.{ops_with}
-use Rattle.room_schemas.specs.Decided.{is_presence, is_of_presence}
 
 module _ (admits : List ℕ → Data → Bool) where
   rising-step_at : (m : Pairs) (k : List ℕ) (c : RecordOpTree) → AreRising m → AreRising (step_at admits m k c)
@@ -93,19 +88,3 @@ twice false x xs test is same = same
 pub part-part : (test : List ℕ → Bool) (m : Pairs) → records_with test (records_with test m) ≡ records_with test m
 part-part test [] = refl
 part-part test (p ∷ m) = twice (test p.0) p (records_with test m) (λ p. test p.0) refl (part-part test m)
-
--- no id is both the document's and a presence's
-pub apart : (o : Option Scope) → is_of_document o ≡ true → is_of_presence o ≡ false
-apart None is = refl
-apart (Some Document) is = refl
-apart (Some Session) is = refl
-apart (Some Presence) is = absurd cc
-
-none_of : {X : Type 0} (b : Bool) (x : X) (xs : List X) (test : X → Bool) → (b ≡ true → test x ≡ false) → filter test xs ≡ [] → filter test (cond b (x ∷ xs) xs) ≡ []
-none_of true x xs test apart none = ap (λ b. cond b (x ∷ filter test xs) (filter test xs)) (apart refl) ∙ none
-none_of false x xs test apart none = none
-
--- the document has no presence
-pub presence-document : (s : SchemaTree) (m : Pairs) → records_with (is_presence s) (records_with (is_document s) m) ≡ []
-presence-document s [] = refl
-presence-document s (p ∷ m) = none_of (is_document s p.0) p (records_with (is_document s) m) (λ p. is_presence s p.0) (apart (scope_of s p.0)) (presence-document s m)

@@ -19,18 +19,16 @@ use Rattle.room_model.proofs.LookUpLemmas.{rising-filter}
 use Rattle.sync_msgs.specs.declared.server_message.Hydration.TheVariants.{WipeAll}
 use Rattle.client_replica.specs.Parts.{ops_with, IsTaken}
 use Rattle.room_schemas.specs.Decided.{is_presence}
+use Rattle.room_schemas.proofs.ApartLemmas.{presence-document}
 use Rattle.client_replica.specs.Works.{works_in, diffs_in}
 use Rattle.client_replica.specs.Stashes.{under, written_over, IsStash}
 use Rattle.client_replica.specs.Standing.{IsReplica, with_work, alone}
 use Rattle.client_replica.proofs.StashLemmas.{written_is, some_is, unwrap_there}
-use Rattle.client_replica.proofs.PartLemmas.{part-step, rising-replay, part-part, presence-document}
+use Rattle.client_replica.proofs.PartLemmas.{part-step, rising-replay, part-part}
 use Rattle.client_replica.proofs.WorkLemmas.{works-append, diffs-append, works-unsent, diffs-edits, edits_left, named-more, ops-more}
+use Rattle.client_replica.proofs.OwnLemmas.{or_right}
 
-or_right : (a b : Bool) → a || b ≡ false → b ≡ false
-or_right true b is = absurd cc
-or_right false b is = is
-
-no_diffs : (own : Option Data) (diffs : List RecordOps) → diffs ++ diffs_in (map presence (option_to_list own)) ≡ diffs
+pub no_diffs : (own : Option Data) (diffs : List RecordOps) → diffs ++ diffs_in (map presence (option_to_list own)) ≡ diffs
 no_diffs None diffs = append-nil diffs
 no_diffs (Some d) diffs = append-nil diffs
 

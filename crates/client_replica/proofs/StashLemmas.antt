@@ -41,7 +41,7 @@ pub unwrap_there : {X : Type 0} (o : Option X) → is_some o ≡ true → (x y :
 unwrap_there None is x y = absurd cc
 unwrap_there (Some z) is x y = refl
 
-some_or : {X : Type 0} (t : Bool) (x : X) (o : Option X) → is_some (cond t (Some x) o) ≡ t || is_some o
+pub some_or : {X : Type 0} (t : Bool) (x : X) (o : Option X) → is_some (cond t (Some x) o) ≡ t || is_some o
 some_or true x o = refl
 some_or false x o = refl
 

@@ -1,7 +1,7 @@
 -- What a replica stands for once its base went on beside store and stash.
 use Rattle.std.proofs.Common.{◌≡◌, ◌≤◌, ℕ, zero, suc, List, [], ◌∷◌, ◌++◌, length, take, drop, Bool, true, false, cond, ◌&&◌, Some, None, slice_get, refl, sym, ap, ◌∙◌, arith}
 use Rattle.std.specs.Prelude.{is_some, unwrap_or}
-use Rattle.std.proofs.lemmas.List.{take_all}
+use Rattle.std.proofs.lemmas.List.{take_all, drop_all}
 use Rattle.std.proofs.lemmas.List.Sums.{sum_by-cons}
 use Rattle.rooms_val.specs.Data.{Data, Pairs}
 use Rattle.rooms_val.specs.Maps.{AreRising, value_at}
@@ -15,26 +15,24 @@ use Rattle.room_model.specs.Schemas.{records_with}
 use Rattle.room_model.specs.Replicas.{Work, Pending}
 use Rattle.room_model.specs.Taking.{Replica, after_events, after_hydration}
 use Rattle.room_model.proofs.LookUpLemmas.{rising-filter}
+use Rattle.room_model.proofs.ActingLemmas.{left as and_first}
 use Rattle.sync_msgs.specs.declared.data_event.Action.TheVariants.{Commit, Discard, Rebase}
 use Rattle.sync_msgs.specs.declared.data_event.DataEvent.{DataEvent}
 use Rattle.sync_msgs.specs.declared.data_event.DataEvent.TheVariants.{Patch, PushResult}
 use Rattle.sync_msgs.specs.declared.server_message.Hydration.TheVariants.{WipePresence}
 use Rattle.room_schemas.specs.Decided.{is_presence}
+use Rattle.room_schemas.proofs.ApartLemmas.{document_apart, presence-document}
 use Rattle.client_replica.specs.Parts.{ops_with}
 use Rattle.client_replica.specs.Works.{works_in, diffs_in, operations, pushed_diff, ended_by, ended}
 use Rattle.client_replica.specs.Stashes.{under, is_named, written_over}
 use Rattle.client_replica.specs.NewBases.{AreStepped, NamesWithin, IsAhead}
 use Rattle.client_replica.specs.Owns.{is_all_document, commits, are_own, settled}
 use Rattle.client_replica.specs.Standing.{IsReplica}
-use Rattle.client_replica.proofs.PartLemmas.{part-step, part-part, presence-document, rising-replay}
+use Rattle.client_replica.proofs.PartLemmas.{part-step, part-part, rising-replay}
 use Rattle.client_replica.proofs.StashLemmas.{some_is, written_is}
 use Rattle.client_replica.proofs.WorkLemmas.{works-drop, diffs-append, named-append, ops-append, replay-first, replay-one}
 use Rattle.client_replica.proofs.NewBaseLemmas.{ahead_diff, replay_same}
 use Rattle.client_replica.proofs.OwnLemmas.{never, or_right, replay-append, unnamed, settled_stash}
-
-and_first : (a b : Bool) → a && b ≡ true → a ≡ true
-and_first true b is = refl
-and_first false b is = is
 
 and_second : (a b : Bool) → a && b ≡ true → b ≡ true
 and_second true b is = is
@@ -106,6 +104,61 @@ module _ (s : SchemaTree) where
       ∙ ap (λ m. replay admits m (diffs_in (drop n works)))
       ((λ i. replay admits (document replica.base) (diffs_in (take ((count ∙ own_ended events works own) i) (stands.works_are i))))
       ∙ sym (own_base events replica.base replica.pending stands.rising of_items))
+
+  -- commits of own first works leave what is pending behind them, and the presence of others
+  record OwnAfter (events : List DataEvent) (base : Pairs) (items : List Pending) : Type 0 where
+    left : (after_events admits (record { base = base; pending = items }) events).pending ≡ drop (length events) items
+    presence : records_with (is_presence s) (after_events admits (record { base = base; pending = items }) events).base ≡ records_with (is_presence s) base
+    rising : AreRising (after_events admits (record { base = base; pending = items }) events).base
+
+  no_presence : (diff : RecordOps) → is_all_document (is_document s) diff ≡ true → ops_with (is_presence s) diff ≡ []
+  no_presence [] all = refl
+  no_presence (c ∷ diff) all =
+      let first = and_first (is_document s c.0) (is_all_document (is_document s) diff) all in
+      let rest = and_second (is_document s c.0) (is_all_document (is_document s) diff) all in
+      ap (λ b. cond b (c ∷ ops_with (is_presence s) diff) (ops_with (is_presence s) diff)) (document_apart s c.0 first) ∙ no_presence diff rest
+
+  own_after : (events : List DataEvent) (base : Pairs) (items : List Pending) → AreRising base → are_own (is_document s) (works_in items) events ≡ true → OwnAfter events base items
+  own_after [] base items rising own = record { left = refl; presence = refl; rising = rising }
+  own_after (Patch diff clock ∷ events) base items rising own = never _ own
+  own_after (PushResult number clock Discard ∷ events) base items rising own = never _ own
+  own_after (PushResult number clock (Rebase diff) ∷ events) base items rising own = never _ own
+  own_after (PushResult number clock Commit ∷ events) base [] rising own =
+      let more = own_after events base [] rising own in
+      record { left = more.left ∙ drop_all (length events) [] (omega arith); presence = more.presence; rising = more.rising }
+  own_after (PushResult number clock Commit ∷ events) base (item ∷ items) rising own =
+      let diff = pushed_diff (Some item.work) in
+      let first = and_first (is_all_document (is_document s) diff) (are_own (is_document s) (works_in items) events) own in
+      let rest = and_second (is_all_document (is_document s) diff) (are_own (is_document s) (works_in items) events) own in
+      let more = own_after events (step admits base diff) items (rising-step admits diff base rising) rest in
+      record {
+        left = more.left;
+        presence = more.presence ∙ part-step admits (is_presence s) base diff rising ∙ ap (step admits (records_with (is_presence s) base)) (no_presence diff first);
+        rising = more.rising;
+      }
+
+  -- after commits of all works a store has the base, and nothing is left beside it
+  pub own_all : (records : Pairs) (works : List Work) (stash : Slots) (others : Pairs) (replica : Replica) (events : List DataEvent)
+      → IsReplica s records works stash others replica → are_own (is_document s) works events ≡ true → length works ≤ length events
+      → IsReplica s records (drop (length events) works) [] others (after_events admits replica events)
+  own_all records works stash others replica events stands own few =
+      let n = length events in
+      let after = after_events admits replica events in
+      let more = own_after events replica.base replica.pending stands.rising (ap (λ ws. are_own (is_document s) ws events) (sym stands.works_are) ∙ own) in
+      let none : drop n works ≡ [] = drop_all n works few in
+      let shows = own_shown records works stash others replica events n (sym (own_ended events works own)) stands own in
+      record {
+        works_are = ap (drop n) stands.works_are ∙ sym (works-drop n replica.pending) ∙ ap works_in (sym more.left);
+        shown = shows;
+        stash_is = record {
+          base_is = λ q. ap (λ m. value_at m q) (shows ∙ ap (λ ws. replay admits (document after.base) (diffs_in ws)) none);
+          exact = λ q. sym (ap (λ ws. is_named (diffs_in ws) q) none);
+          rising = tt;
+          few = omega arith;
+        };
+        others_are = stands.others_are ∙ sym more.presence;
+        rising = more.rising;
+      }
 
   -- a base beside which nothing changed yet
   pub ahead : (records : Pairs) (works : List Work) (stash : Slots) (others : Pairs) (replica : Replica) → IsReplica s records works stash others replica → IsAhead s replica replica.pending records stash [] others

@@ -15,7 +15,7 @@ use Rattle.room_model.specs.Taking.{after_hydration}
 use Rattle.sync_msgs.specs.declared.server_message.Hydration.{Hydration}
 use Rattle.room_schemas.specs.Decided.{is_presence}
 use Rattle.client_replica.specs.Works.{work_of, works_in, diffs_in}
-use Rattle.client_replica.specs.Stashes.{IsStash}
+use Rattle.client_replica.specs.Stashes.{IsStash, AreCounted}
 use Rattle.client_replica.specs.declared.replica.Replica.{Replica}
 
 -- a store's records, works, a stash and the presence of others make up a base and what is pending over it
@@ -44,9 +44,12 @@ module _ {D : Type 0} where
   abbrev pub presence_of : Replica D → List ℕ → Bool
   presence_of r = is_presence (schema_tree r.schema)
 
-  -- a replica stands for a base and what is pending over it, if this says which records a store has
+  -- a replica stands for a base and what is pending over it, if this says which records a store has, and has counted how many
+  -- edits name each id
   abbrev pub Stands : (D → Pairs) → model.Replica → Replica D → Type 0
-  Stands records replica r = IsReplica (schema_tree r.schema) (records r.store) (map work_of r.works.items) r.stash r.others replica
+  Stands records replica r =
+      IsReplica (schema_tree r.schema) (records r.store) (map work_of r.works.items) r.stash r.others replica
+      × AreCounted (diffs_in (map work_of r.works.items)) r.names
 
 -- a replica with a further work, which wasn't sent
 abbrev pub with_work : Work → model.Replica → model.Replica

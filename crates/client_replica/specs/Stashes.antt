@@ -1,10 +1,11 @@
 -- What a stash holds, which lies under records that edits have changed: what stood there before.
-use Rattle.std.specs.Prelude.{◌≡◌, ◌≤◌, ℕ, List, [], ◌∷◌, length, Bool, if◌then◌else◌, Option, is_some, unwrap_or}
+use Rattle.std.specs.Prelude.{◌≡◌, ◌≤◌, ℕ, List, [], ◌∷◌, length, sum_by, Bool, if◌then◌else◌, Option, is_some, unwrap_or}
 use Rattle.std.specs.List.{list_any}
 use Rattle.rooms_val.specs.Data.{Data, Pairs}
 use Rattle.rooms_val.specs.Maps.{AreRising, value_at, set_at, with_key, without_key}
 use Rattle.field_ops.specs.RecordOps.{RecordOps}
 use Rattle.doc_store.specs.Slots.{Slots}
+use Rattle.edit_names.specs.Names.{Names, count_at, once}
 use Rattle.client_replica.specs.Works.{operations}
 
 -- the record that stands under an id with a stash written over the records, or none
@@ -23,6 +24,14 @@ kept stash id r = if is_some (value_at stash id) then stash else with_key stash 
 -- whether some of the diffs name an id
 abbrev pub is_named : List RecordOps → List ℕ → Bool
 is_named diffs id = list_any (λ diff. is_some (value_at diff id)) diffs
+
+-- how many of the diffs name an id
+abbrev pub times : List RecordOps → List ℕ → ℕ
+times diffs id = sum_by (λ diff. once diff id) diffs
+
+-- these are the counts of the ids that diffs name
+abbrev pub AreCounted : List RecordOps → Names → Type 0
+AreCounted diffs names = (id : List ℕ) → count_at names id ≡ times diffs id
 
 -- a stash without some ids, the last first
 abbrev pub without_all : Slots → List (List ℕ) → Slots

@@ -1,10 +1,13 @@
 //! A replica of a room's document, with edits over it that the room hasn't answered.
-ghost use Rattle.std.specs.Prelude.{◌≡◌, ◌+◌, ◌*◌, ◌≤◌, ◌∷◌, [], ℕ, List, length, drop, take, map, slice_get, is_some, true, false, IfOk, OnOk, OnErr};
+ghost use Rattle.std.specs.Prelude.{◌≡◌, ◌+◌, ◌*◌, ◌≤◌, ◌∷◌, [], ℕ, List, length, drop, take, map, slice_get, is_some, ◌||◌, true, false, IfOk, OnOk, OnErr};
 ghost use Rattle.std.specs.Option.{option_copied};
 ghost use Rattle.std.specs.Borrow.{sem};
 ghost use Rattle.rooms_val.specs.View.{data_of};
 ghost use Rattle.field_ops.specs.View.{maybe_data};
 ghost use Rattle.doc_model.specs.Inverses.{inverse_diff};
+ghost use Rattle.doc_store.specs.Checking.{admits_by, IsChecked};
+ghost use Rattle.field_ops.specs.RecordOps.{RecordOps};
+ghost use Rattle.client_replica.specs.Stashes.{under, AreCounted};
 ghost use Rattle.room_model.specs.Replicas.{edit, presence, diff_in};
 ghost use Rattle.room_model.specs.Schemas.{records_with};
 ghost use Rattle.schema_core.specs.SchemaOf.{schema_tree};
@@ -14,19 +17,20 @@ ghost use Rattle.client_replica.specs.Parts.{wiped};
 ghost use Rattle.client_replica.specs.Works.{work_of, works_in, diffs_in, operations, brought, ended};
 ghost use Rattle.rooms_val.specs.Data.{Pairs};
 ghost use Rattle.rooms_val.specs.Maps.{AreRising, value_at};
-ghost use Rattle.doc_model.specs.Documents.{replay};
+ghost use Rattle.doc_model.specs.Documents.{step, replay};
 ghost use Rattle.sync_msgs.specs.declared.server_message.Hydration.TheVariants.{WipeAll, WipePresence};
 ghost use Rattle.client_replica.specs.NewBases.{IsOf, NamesWithin};
 ghost use Rattle.client_replica.specs.Owns.{are_own, settled};
 ghost use Rattle.client_replica.specs.Standing.{IsReplica, Stands, admits_of, document_of, presence_of, with_work, alone, after_snapshot};
 
 use crate::new_base::NewBase;
-use crate::own::{are_own, settle};
+use crate::own::{are_own, forget_first, settle};
 use crate::replay::replay;
 use crate::stash::Stash;
 use crate::stepping::{clear, step_base};
 use crate::work::Work;
 use doc_store::{DocStore, apply};
+use edit_names::EditNames;
 use field_ops::Diff;
 use rooms_val::{Fields, Mem, OutOfMemory, Steps, Val};
 use schema_core::Schema;
@@ -47,6 +51,8 @@ pub struct Replica<D> {
     stash: Stash,
     // What no room has answered, the oldest first.
     works: VecDeque<Work>,
+    // How many of the edits among the works name each id.
+    names: EditNames,
     // The base's other part: the presence of others, by id.
     others: Fields,
 }
@@ -66,18 +72,27 @@ impl<D: DocStore> Replica<D> {
             store,
             stash: Stash::new(alloc),
             works: VecDeque::new(alloc),
+            names: EditNames::new(alloc),
             others: Fields::new(alloc),
         }
     }
 
-    /// Does an edit, whose ids are the document's: its operations act as the step has it, and it is pending. Answers the
-    /// diff that undoes what acted. It costs what the diff names, at most a step for each operation. Where memory is
-    /// refused the replica is as before.
-    pub fn edit<L: Ledger>(&mut self, alloc: Global, diff: Diff, steps: &mut Steps<L>) -> Mem<Diff>
+    /// Does an edit, whose ids are the document's: its operations act as the step has it, and it is pending. Of a checked
+    /// edit each patch is known to act, and what it leaves isn't looked at again. Answers the diff that undoes what acted. It
+    /// costs what the diff names, at most a step for each operation. Where memory is refused the replica is as before.
+    pub fn edit<L: Ledger>(
+        &mut self,
+        alloc: Global,
+        diff: Diff,
+        checked: bool,
+        steps: &mut Steps<L>,
+    ) -> Mem<Diff>
         ensures ok { OnOk result ((replica : model.Replica) → Stands D.records replica self.old
+            → IsChecked checked (admits_of self.old) (D.records self.old.store) diff
             → Stands D.records (with_work (edit diff) replica) self.new) }
-        ensures back { IfOk result (λ back. back
-            ≡ inverse_diff (admits_of self.old) (D.records self.old.store) diff) }
+        ensures back { IfOk result (λ back.
+            IsChecked checked (admits_of self.old) (D.records self.old.store) diff
+            → back ≡ inverse_diff (admits_of self.old) (D.records self.old.store) diff) }
         ensures err { OnErr result ((replica : model.Replica) → Stands D.records replica self.old
             → Stands D.records replica self.new) }
         ensures schema { self.new.schema ≡ self.old.schema }
@@ -86,14 +101,22 @@ impl<D: DocStore> Replica<D> {
         ensures ticks { steps.new ≤ steps.old + length diff }
     {
         self.works.reserve(1)?;
-        let fresh = self.stash.keep_all(alloc, &self.store, &diff)?;
-        match apply(alloc, &mut self.store, &self.schema, &diff, steps) {
+        self.names.add(alloc, &diff)?;
+        match write_edit(
+            alloc,
+            &self.schema,
+            &mut self.store,
+            &mut self.stash,
+            &diff,
+            checked,
+            steps,
+        ) {
             Ok(back) => {
                 self.works.push_back_reserved(Work::Edit(diff));
                 Ok(back)
             }
             Err(_) => {
-                self.stash.forget(&fresh);
+                self.names.remove(&diff);
                 Err(OutOfMemory)
             }
         }
@@ -125,11 +148,11 @@ impl<D: DocStore> Replica<D> {
 
     /// Takes what happened in the room: the events are done to the base in order, and each result ends the first pending
     /// work. Where each commits the first work that is left then, and these name ids of the document alone, the store stays
-    /// and no step is counted. Else what is shown is written under the ids that the events bring and under those that the
-    /// ended works name. It counts at most one step for each operation that the events bring, and two for each operation of
-    /// the works that they end. For each of these ids that pending edits name the works left are walked twice. It costs that,
-    /// and where a presence changes a copy of the list of them; never the document. Where memory is refused the replica is as
-    /// before.
+    /// and no step is counted; it costs what these works name, and where no work is left a look at the works alone. Else what
+    /// is shown is written under the ids that the events bring and under those that the ended works name. It counts at most one
+    /// step for each operation that the events bring, and two for each operation of the works that they end. For each of these
+    /// ids that pending edits name the works left are walked. It costs that, and where a presence changes a copy of the list of
+    /// them; never the document. Where memory is refused the replica is as before.
     pub fn take_events<L: Ledger>(
         &mut self,
         alloc: Global,
@@ -153,6 +176,14 @@ impl<D: DocStore> Replica<D> {
             → are_own (document_of self.old) (works_in replica.pending) events.now ≡ true
             → (steps.new ≡ steps.old) × (self.new.store ≡ self.old.store)) }
     {
+        let own = are_own(&self.schema, &self.works, events);
+        let count = events.as_slice().len();
+        if own && self.works.len() <= count {
+            self.stash = Stash::new(alloc);
+            self.names = EditNames::new(alloc);
+            drop_first(&mut self.works, count);
+            return Ok(());
+        }
         let mut base = NewBase::new(alloc, self.others.copy(alloc)?);
         let answered = base.take_events(
             alloc,
@@ -162,19 +193,21 @@ impl<D: DocStore> Replica<D> {
             &self.works,
             events,
         )?;
-        if are_own(&self.schema, &self.works, events) {
-            self.settle(base, answered);
+        if own {
+            forget_first(&mut self.names, &self.works, answered);
+            self.settle(base);
             drop_first(&mut self.works, answered);
             return Ok(());
         }
         self.write_changes(alloc, &base.changes, answered, steps)?;
-        self.settle(base, answered);
+        forget_first(&mut self.names, &self.works, answered);
+        self.settle(base);
         drop_first(&mut self.works, answered);
         Ok(())
     }
 
     /// Takes what the room has: the base is brought to the room's by the diff, and the edits stay pending; the replica's own
-    /// presence is pending last, if there is one. For `WipePresence` it costs what the diff names, with two walks over the
+    /// presence is pending last, if there is one. For `WipePresence` it costs what the diff names, with a walk over the
     /// works for each of these ids that pending edits name; for `WipeAll` the base's document, the diff, and what is pending,
     /// which is undone and replayed. Where memory is refused the replica is as before.
     pub fn take_snapshot<L: Ledger>(
@@ -256,7 +289,7 @@ impl<D: DocStore> Replica<D> {
         let mut base = NewBase::new(alloc, Fields::new(alloc));
         base.step(alloc, &self.schema, &self.store, &self.stash, diff)?;
         self.write_changes(alloc, &base.changes, 0, steps)?;
-        self.settle(base, 0);
+        self.settle(base);
         Ok(())
     }
 
@@ -297,19 +330,17 @@ impl<D: DocStore> Replica<D> {
         }
     }
 
-    // Keeps a base that went on: of the ids that changed the stash holds those that works from a place on name. It takes no
-    // memory.
-    fn settle(&mut self, base: NewBase, from: usize)
-        ensures stash { NamesWithin (diffs_in (map work_of
-            (drop from self.old.works.items))) self.old.stash → (id : List ℕ)
-            → value_at self.new.stash id ≡ settled (diffs_in (map work_of
-            (drop from self.old.works.items))) base.changes self.old.stash id }
+    // Keeps a base that went on: of the ids that changed the stash holds those that a counted edit names. It takes no memory.
+    fn settle(&mut self, base: NewBase)
+        ensures stash { (diffs : List RecordOps) → AreCounted diffs self.old.names
+            → NamesWithin diffs self.old.stash → (id : List ℕ) → value_at self.new.stash id
+            ≡ settled diffs base.changes self.old.stash id }
         ensures rising { AreRising self.new.stash }
         ensures kept { self.new
             ≡ record self.old { stash = self.new.stash; others = base.others } }
     {
         let NewBase { changes, others } = base;
-        settle(&mut self.stash, &self.works, from, changes);
+        settle(&mut self.stash, &self.names, changes);
         self.stash.tell_rising();
         self.others = others;
     }
@@ -420,6 +451,42 @@ impl<D: DocStore> Replica<D> {
         ensures { option_copied result ≡ slice_get self.now.works.items place }
     {
         self.works.get(place)
+    }
+}
+
+// Does an edit to a store, and holds what stood there before. Where memory is refused store and stash are as before.
+fn write_edit<D: DocStore, L: Ledger>(
+    alloc: Global,
+    schema: &Schema,
+    store: &mut D,
+    stash: &mut Stash,
+    diff: &Diff,
+    checked: bool,
+    steps: &mut Steps<L>,
+) -> Mem<Diff>
+    ensures shown { OnOk result (D.records store.new
+        ≡ step (admits_by checked (schema_tree schema.now)) (D.records store.old) diff.now) }
+    ensures base { OnOk result ((id : List ℕ)
+        → under stash.new (D.records store.old) id ≡ under stash.old (D.records store.old) id) }
+    ensures exact { OnOk result ((id : List ℕ) → is_some (value_at stash.new id)
+        ≡ is_some (value_at stash.old id) || is_some (value_at diff.now id)) }
+    ensures few { OnOk result (length stash.new ≤ length stash.old + length diff.now) }
+    ensures rising { OnOk result (AreRising stash.new) }
+    ensures back { IfOk result (λ back. back
+        ≡ inverse_diff (admits_by checked (schema_tree schema.now)) (D.records store.old) diff.now) }
+    ensures records { OnErr result (D.records store.new ≡ D.records store.old) }
+    ensures err { OnErr result (stash.new ≡ stash.old) }
+    ensures begun { D.begun store.new ≡ D.begun store.old }
+    ensures rest { D.rest store.new ≡ D.rest store.old }
+    ensures ticks { steps.new ≤ steps.old + length diff.now }
+{
+    let fresh = stash.keep_all(alloc, &*store, diff)?;
+    match apply(alloc, store, schema, checked, diff, steps) {
+        Ok(back) => Ok(back),
+        Err(_) => {
+            stash.forget(&fresh);
+            Err(OutOfMemory)
+        }
     }
 }
 

@@ -87,7 +87,14 @@ pub(crate) fn step_store<D: DocStore, L: Ledger>(
     ensures rest { D.rest store.new ≡ D.rest store.old }
     ensures ticks { steps.new ≤ steps.old + 1 }
 {
-    let left = step_record(alloc, schema, id.as_str(), store.get(id.as_str()), op)?;
+    let left = step_record(
+        alloc,
+        schema,
+        false,
+        id.as_str(),
+        store.get(id.as_str()),
+        op,
+    )?;
     if let Some(after) = left {
         drop(store.write(alloc, id.as_str(), after, steps)?);
     }
@@ -106,7 +113,7 @@ pub(crate) fn record_left(
         ≡ record_after (is_admitted (schema_tree schema.now)) id.now (Some (change_of op.now))
         (maybe_data (option_copied before.entry))) }
 {
-    let left = step_record(alloc, schema, id, before, op)?;
+    let left = step_record(alloc, schema, false, id, before, op)?;
     match left {
         Some(after) => Ok(after),
         None => {
@@ -127,7 +134,14 @@ pub(crate) fn step_others(
     ensures { OnOk result (others.new
         ≡ step_at (is_admitted (schema_tree schema.now)) others.old id.now (change_of op.now)) }
 {
-    let left = step_record(alloc, schema, id.as_str(), others.get(id.as_str()), op)?;
+    let left = step_record(
+        alloc,
+        schema,
+        false,
+        id.as_str(),
+        others.get(id.as_str()),
+        op,
+    )?;
     if let Some(after) = left {
         set(alloc, others, id, after)?;
     }

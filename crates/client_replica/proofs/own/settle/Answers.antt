@@ -1,9 +1,8 @@
-use Rattle.std.proofs.Common.{◌∷◌, map, drop, sym, ap, subst, ◌∙◌}
+use Rattle.std.proofs.Common.{◌∷◌, sym, ap, subst, ◌∙◌}
 use Rattle.std.specs.Prelude.{string_bytes}
 use Rattle.rooms_val.specs.Maps.{AreRising}
 use Rattle.rooms_val.proofs.MapsLemmas.{rising_rest}
 use Rattle.field_ops.specs.View.{maybe_data}
-use Rattle.client_replica.specs.Works.{work_of, diffs_in}
 use Rattle.client_replica.specs.NewBases.{NamesWithin}
 use Rattle.client_replica.specs.Owns.{settled}
 use Rattle.client_replica.proofs.OwnLemmas.{settled-next, names-next}
@@ -11,16 +10,15 @@ use Rattle.client_replica.proofs.own.settle.Goals as goal
 
 pub ids-preserved : goal.ids-preserved
 ids-preserved c =
-    let left = diffs_in (map work_of (drop c.args.from c.args.works.now.items)) in
     let k = string_bytes c.in-Some.id in
     let r = maybe_data c.in-Some.slot in
     let more = c.take_first.new.self in
     let first = c.in-Some.ensures.some in
     let rising : AreRising ((k, r) ∷ more) = subst AreRising first c.ids.invariant.rising in
     record {
-      settles = λ names.
-          let was = c.ids.invariant.settles names in
-          let now = c.settle_one.ensures was.1 in (
+      settles = λ left counted names.
+          let was = c.ids.invariant.settles left counted names in
+          let now = c.settle_one.ensures left counted was.1 in (
             λ q. ap (λ st. settled left more st q) now ∙ settled-next left k r more c.ids.stash q rising ∙ sym (ap (λ l. settled left l c.ids.stash q) first) ∙ was.0 q,
             subst (NamesWithin left) (sym now) (names-next left k r c.ids.stash was.1),
           );
@@ -28,4 +26,4 @@ ids-preserved c =
     }
 
 pub returns : goal.returns
-returns c = λ names q. sym (ap (λ l. settled (diffs_in (map work_of (drop c.args.from c.args.works.now.items))) l c.ids.stash q) c.in_default.ensures.none) ∙ (c.ids.invariant.settles names).0 q
+returns c = λ diffs counted names q. sym (ap (λ l. settled diffs l c.ids.stash q) c.in_default.ensures.none) ∙ (c.ids.invariant.settles diffs counted names).0 q

@@ -1,4 +1,4 @@
-use Rattle.std.proofs.Common.{◌≡◌, ℕ, List, map, drop, sym, ap, subst, ◌∙◌}
+use Rattle.std.proofs.Common.{◌≡◌, ℕ, List, map, sym, ap, subst, ◌∙◌}
 use Rattle.rooms_val.specs.Maps.{value_at}
 use Rattle.schema_core.specs.SchemaOf.{schema_tree}
 use Rattle.schema_core.specs.Admits.{is_admitted, is_document}
@@ -11,6 +11,8 @@ use Rattle.sync_msgs.specs.declared.server_message.Hydration.TheVariants.{WipePr
 use Rattle.client_replica.specs.Parts.{ops_with}
 use Rattle.client_replica.specs.Works.{work_of, diffs_in}
 use Rattle.client_replica.specs.NewBases.{AreStepped, NamesWithin}
+use Rattle.field_ops.specs.RecordOps.{RecordOps}
+use Rattle.client_replica.specs.Stashes.{AreCounted}
 use Rattle.client_replica.specs.Owns.{settled}
 use Rattle.client_replica.specs.Standing.{IsReplica}
 use Rattle.client_replica.proofs.NewBaseLemmas.{is_of}
@@ -30,16 +32,16 @@ returns-clause-ok g c = λ replica stands.
     let others = c.step.new.self.others in
     let new = c.settle.new.self.stash in
     let after : Replica = record replica { base = after_hydration (is_admitted s) (is_document s) replica.base WipePresence diff } in
-    let is = ahead_snapshot s m works r.stash changes r.others others replica diff stands
+    let is = ahead_snapshot s m works r.stash changes r.others others replica diff stands.0
     (subst (λ old. AreStepped s diff m r.stash old changes) c.new-base.ensures.changes c.in_ok-step.ensures.document)
     (c.in_ok-step.ensures.presence ∙ ap (λ o. step (is_admitted s) o (ops_with (is_presence s) diff)) (c.new-base.ensures.others ∙ c.new.ensures)) in
-    let names = names_within s m works r.stash r.others replica 0 stands in
+    let names = names_within s m works r.stash r.others replica 0 stands.0 in
     let base = records_with (is_document s) after.base in
-    let shows = c.in_ok-write_changes.ensures.ok base (rising-filter (is_document s) after.base is.rising) (rising-shown s m works r.stash r.others replica stands) (is_of base m r.stash changes is.document) names
-    (stays s m works r.stash changes r.others others replica after replica.pending 0 stands is (none_ended s works changes)) in
-    let settles = subst (λ x. NamesWithin (diffs_in (map work_of (drop 0 x.works.items))) x.stash → (q : List ℕ) → value_at new q ≡ settled (diffs_in (map work_of (drop 0 x.works.items))) changes x.stash q)
-    c.in_ok-write_changes.ensures.kept c.settle.ensures.stash names in
-    subst (λ x. IsReplica (schema_tree x.schema) (g.D.DocStore.records x.store) (map work_of x.works.items) x.stash x.others after)
+    let shows = c.in_ok-write_changes.ensures.ok base (rising-filter (is_document s) after.base is.rising) (rising-shown s m works r.stash r.others replica stands.0) (is_of base m r.stash changes is.document) names
+    (stays s m works r.stash changes r.others others replica after replica.pending 0 stands.0 is (none_ended s works changes)) in
+    let settles = subst (λ x. (diffs : List RecordOps) → AreCounted diffs x.names → NamesWithin diffs x.stash → (q : List ℕ) → value_at new q ≡ settled diffs changes x.stash q)
+    c.in_ok-write_changes.ensures.kept c.settle.ensures.stash (diffs_in works) stands.1 names in
+    subst (λ x. IsReplica (schema_tree x.schema) (g.D.DocStore.records x.store) (map work_of x.works.items) x.stash x.others after × AreCounted (diffs_in (map work_of x.works.items)) x.names)
     (sym c.settle.ensures.kept)
-    (subst (λ x. IsReplica (schema_tree x.schema) (g.D.DocStore.records c.write_changes.new.self.store) (map work_of x.works.items) new others after) (sym c.in_ok-write_changes.ensures.kept)
-    (went_on s m (g.D.DocStore.records c.write_changes.new.self.store) works r.stash changes new r.others others replica after 0 stands is (none_ended s works changes) shows settles c.settle.ensures.rising))
+    (subst (λ x. IsReplica (schema_tree x.schema) (g.D.DocStore.records c.write_changes.new.self.store) (map work_of x.works.items) new others after × AreCounted (diffs_in (map work_of x.works.items)) x.names) (sym c.in_ok-write_changes.ensures.kept)
+    (went_on s m (g.D.DocStore.records c.write_changes.new.self.store) works r.stash changes new r.others others replica after 0 stands.0 is (none_ended s works changes) shows settles c.settle.ensures.rising, stands.1))
