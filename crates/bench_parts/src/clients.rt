@@ -58,7 +58,7 @@ fn call<L: Ledger>(
     connect(alloc, client)?;
     take(alloc, client, &answer(alloc, ids)?, steps)?;
     if let Some(id) = ids.first() {
-        drop(client.edit(alloc, moved(alloc, id, 5)?, steps)?);
+        drop(client.edit(alloc, moved(alloc, id, 5)?, false, steps)?);
     }
     for call in 0..calls.count {
         if let Some(id) = calls.id(ids, call) {

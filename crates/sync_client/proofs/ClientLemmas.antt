@@ -119,13 +119,16 @@ module _ {D : Type 0} where
   -- a replica stands for the works of its pending items, whatever their numbers
   same_works : (records : D → Pairs) (base : Pairs) (items more : List Pending) (r : code.Replica D) → works_in more ≡ works_in items → replica.Stands records (record { base = base; pending = items }) r
       → replica.Stands records (record { base = base; pending = more }) r
-  same_works records base items more r same stands = record {
-    works_are = stands.works_are ∙ sym same;
-    shown = stands.shown;
-    stash_is = stands.stash_is;
-    others_are = stands.others_are;
-    rising = stands.rising;
-  }
+  same_works records base items more r same stands = (
+    record {
+      works_are = stands.0.works_are ∙ sym same;
+      shown = stands.0.shown;
+      stash_is = stands.0.stash_is;
+      others_are = stands.0.others_are;
+      rising = stands.0.rising;
+    },
+    stands.1,
+  )
 
   -- its pending works
   abbrev pub works_of : SyncClient D → List Work
@@ -138,7 +141,7 @@ module _ {D : Type 0} where
       let first = suc (c.counts.pushes - c.counts.sent) in
       let works = works_of c in
       let more : map work_of r.works.items ≡ works ++ work ∷ [] =
-      next.works_are ∙ works-append held.client.pending (unsent work ∷ []) ∙ ap (λ ws. ws ++ work ∷ []) (sym stands.replica.works_are) in
+      next.0.works_are ∙ works-append held.client.pending (unsent work ∷ []) ∙ ap (λ ws. ws ++ work ∷ []) (sym stands.replica.0.works_are) in
       let many : c.counts.sent ≤ length works = let same = length-map c.replica.works.items work_of in let sent = stands.sent in omega arith in
       record {
         replica = next;
@@ -218,7 +221,7 @@ module _ {D : Type 0} where
         presence = stands.presence;
         refused = refl;
         pushes = pushes ∙ stands.pushes;
-        pending = ap all_unsent (sym (works-unsent (map edit diffs)) ∙ sym now.works_are) ∙ ap (λ n. numbered (suc (counts.pushes - n)) n (map work_of r.works.items)) (sym sent);
+        pending = ap all_unsent (sym (works-unsent (map edit diffs)) ∙ sym now.0.works_are) ∙ ap (λ n. numbered (suc (counts.pushes - n)) n (map work_of r.works.items)) (sym sent);
         sent = let none = sent in omega arith;
         closed = λ shut. ap (λ ds. all_unsent (map edit ds)) (sym (unsent_diffs diffs));
       }
@@ -244,7 +247,7 @@ module _ {D : Type 0} where
         presence = stands.presence;
         refused = stands.refused;
         pushes = pushes ∙ stands.pushes;
-        pending = ap all_unsent (sym (works-unsent all) ∙ sym now.works_are) ∙ ap (λ n. numbered (suc (counts.pushes - n)) n (map work_of r.works.items)) (sym sent);
+        pending = ap all_unsent (sym (works-unsent all) ∙ sym now.0.works_are) ∙ ap (λ n. numbered (suc (counts.pushes - n)) n (map work_of r.works.items)) (sym sent);
         sent = let none = sent in omega arith;
         closed = λ shut. absurd (opposite (ap is_open (sym (ap opened asks)) ∙ shut));
       }
@@ -260,7 +263,7 @@ module _ {D : Type 0} where
       let within = c.counts.within in
       let many = let same = length-map c.replica.works.items work_of in let was = stands.sent in let it : c.counts.sent ≤ length works = omega arith in it in
       let ended = ended-drop (admits_of c.replica) (replica_of held) events in
-      let left : map work_of r.works.items ≡ drop n works = next.works_are ∙ ap works_in ended ∙ works-drop n held.client.pending ∙ ap (drop n) (sym stands.replica.works_are) in
+      let left : map work_of r.works.items ≡ drop n works = next.0.works_are ∙ ap works_in ended ∙ works-drop n held.client.pending ∙ ap (drop n) (sym stands.replica.0.works_are) in
       record {
         replica = next;
         connection = stands.connection;
@@ -280,7 +283,7 @@ module _ {D : Type 0} where
   -- the replica came to stand for the same
   pub still : (records : D → Pairs) (held : Held) (c : SyncClient D) (r : code.Replica D) → Stands records held c → replica.Stands records (replica_of held) r → Stands records held (record c { replica = r })
   still records held c r stands next =
-      let same : works_of c ≡ map work_of r.works.items = stands.replica.works_are ∙ sym next.works_are in
+      let same : works_of c ≡ map work_of r.works.items = stands.replica.0.works_are ∙ sym next.0.works_are in
       record {
         replica = next;
         connection = stands.connection;
@@ -315,7 +318,7 @@ module _ {D : Type 0} where
   -- what it shows
   pub shows : (records : D → Pairs) (held : Held) (c : SyncClient D) → Stands records held c → records c.replica.store ≡ replay (admits_of c.replica) (records_with (document_of c.replica) held.base) (pending_diffs held.client)
   shows records held c stands =
-      stands.replica.shown ∙ ap (replay (admits_of c.replica) (records_with (document_of c.replica) held.base)) (ap diffs_in stands.replica.works_are ∙ sym (diffs-pending held.client.pending))
+      stands.replica.0.shown ∙ ap (replay (admits_of c.replica) (records_with (document_of c.replica) held.base)) (ap diffs_in stands.replica.0.works_are ∙ sym (diffs-pending held.client.pending))
 
   -- it has a presence of its own
   with_own : (records : D → Pairs) (held : Held) (c : SyncClient D) (own : Option Val) (d : Data) → Stands records held c → maybe_data own ≡ Some d

@@ -6,6 +6,7 @@ ghost use Rattle.rooms_val.specs.Answers.{Gives};
 ghost use Rattle.field_ops.specs.View.{maybe_data};
 ghost use Rattle.rooms_val.specs.Data.{Pairs};
 ghost use Rattle.doc_model.specs.Inverses.{inverse_diff};
+ghost use Rattle.doc_store.specs.Checking.{IsChecked};
 ghost use Rattle.doc_model.specs.Documents as documents;
 ghost use Rattle.migrate_seq.specs.Plans.{newest_versions};
 ghost use Rattle.schema_core.specs.SchemaOf.{schema_tree};
@@ -83,17 +84,27 @@ impl<D: DocStore> SyncClient<D> {
         }
     }
 
-    /// Does an edit, whose ids are the document's: its operations act as the step has it, and it is pending. Answers the
-    /// diff that undoes what acted. It costs what the diff names, at most a step for each operation. Where memory is
-    /// refused the client is as before.
-    pub fn edit<L: Ledger>(&mut self, alloc: Global, diff: Diff, steps: &mut Steps<L>) -> Mem<Diff>
+    /// Does an edit, whose ids are the document's: its operations act as the step has it, and it is pending. Of a checked
+    /// edit each patch is known to act, and what it leaves isn't looked at again. Answers the diff that undoes what acted. It
+    /// costs what the diff names, at most a step for each operation. Where memory is refused the client is as before.
+    pub fn edit<L: Ledger>(
+        &mut self,
+        alloc: Global,
+        diff: Diff,
+        checked: bool,
+        steps: &mut Steps<L>,
+    ) -> Mem<Diff>
         ensures ok { OnOk result ((held : Held) → Stands D.records held self.old
+            → IsChecked checked (admits_of self.old.replica)
+            (D.records self.old.replica.store) diff
             → Stands D.records (record held {
               client = model.with_work
                   (edit diff) held.client;
             }) self.new) }
-        ensures back { IfOk result (λ back. back
-            ≡ inverse_diff (admits_of self.old.replica) (D.records self.old.replica.store) diff) }
+        ensures back { IfOk result (λ back. IsChecked checked (admits_of self.old.replica)
+            (D.records self.old.replica.store) diff
+            → back ≡ inverse_diff (admits_of self.old.replica)
+            (D.records self.old.replica.store) diff) }
         ensures err { OnErr result ((held : Held) → Stands D.records held self.old
             → Stands D.records held self.new) }
         ensures schema { self.new.replica.schema ≡ self.old.replica.schema }
@@ -101,7 +112,7 @@ impl<D: DocStore> SyncClient<D> {
         ensures rest { D.rest self.new.replica.store ≡ D.rest self.old.replica.store }
         ensures ticks { steps.new ≤ steps.old + length diff }
     {
-        self.replica.edit(alloc, diff, steps)
+        self.replica.edit(alloc, diff, checked, steps)
     }
 
     /// Sets the record by which others are to see it. It is pending if the client is connected, and again each time it is
@@ -220,7 +231,7 @@ impl<D: DocStore> SyncClient<D> {
     /// Takes a message of the room. An answer to its request connects it: its base is brought to the room's clock, the
     /// pending edits stay, and all is to be pushed, its own presence last. Data changes its base event by event, and
     /// each result ends the first pending work. It costs what the message brings and what the works name that it ends, with
-    /// two walks over the works left for each of these ids that pending edits name; for `WipeAll` all that is pending and the
+    /// a walk over the works left for each of these ids that pending edits name, unless it commits the first works alone; for `WipeAll` all that is pending and the
     /// base's document, and never the document otherwise.
     ///
     /// # Errors

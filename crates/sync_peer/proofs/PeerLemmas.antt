@@ -26,7 +26,10 @@ use Rattle.room_model.specs.Replicas.{Client, Work, with_work, is_open, first_un
 use Rattle.room_model.specs.declared.limits.TheConstants.{MOST_PUSHES}
 use Rattle.client_replica.specs.Standing.{admits_of, document_of, presence_of, IsReplica}
 use Rattle.client_replica.specs.Works.{work_of}
+use Rattle.client_replica.specs.declared.replica.Replica.{Replica}
+use Rattle.doc_store.specs.Checking.{IsChecked}
 use Rattle.side_effects.specs.Completed.{completed}
+use Rattle.side_effects.proofs.ActingLemmas.{completed_acts}
 use Rattle.side_effects.specs.declared.fault.EditFault.{EditFault}
 use Rattle.side_effects.specs.declared.fault.EditFault.TheVariants as edit
 use Rattle.sync_client.specs.Calls.{Held, pushed, after_message, replica_of}
@@ -112,6 +115,13 @@ module _ (schemas : WorldSchemas EditFault) (held : Held) (peer : Peer) (stands 
   -- the inverse of what acts in its store is that of what acts in what it shows
   pub back_is : (diff : RecordOps) → inverse_diff (admits_of peer.client.replica) (records_of peer.client.replica.store) diff ≡ back_of schemas held diff
   back_is diff = sym (λ i. inverse_diff (admits_are i) (shown_is i) diff)
+
+-- each patch of what an edit is completed to acts
+pub completed_at_acts : (replica : Replica Seen) (schema : Schema) (store : Seen) (wanted diff : RecordOps) → schema ≡ replica.schema → store ≡ replica.store
+    → completed (schema_tree schema) (records_of store) wanted ≡ Ok diff → IsChecked true (admits_of replica) (records_of replica.store) diff
+completed_at_acts replica schema store wanted diff schema_same store_same is = λ _.
+    completed_acts (schema_tree replica.schema) (records_of replica.store) wanted diff
+    (sym (λ i. completed (schema_tree (schema_same i)) (records_of (store_same i)) wanted) ∙ is)
 
 -- a client by itself knows no marks
 pub marks_free : (m : Marks) (held : Held) (c : SyncClient Seen) → client.Stands records_of held c → client.Stands records_of (with_marks m held) c
@@ -218,7 +228,7 @@ still_stands schemas held peer store stands same =
       known = stands.known;
       version = stands.version;
       client = record {
-        replica = subst (λ m. IsReplica (schema_tree r.schema) m (map work_of r.works.items) r.stash r.others (replica_of held)) (sym same) is.replica;
+        replica = (subst (λ m. IsReplica (schema_tree r.schema) m (map work_of r.works.items) r.stash r.others (replica_of held)) (sym same) is.replica.0, is.replica.1);
         connection = is.connection;
         reached = is.reached;
         presence = is.presence;

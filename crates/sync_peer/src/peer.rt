@@ -108,7 +108,7 @@ impl Peer {
         tell_rising(wanted);
         let diff = complete(alloc, self.client.schema(), self.client.store(), wanted)?;
         self.marks.edit(alloc)?;
-        let back = self.client.edit(alloc, diff, steps)?;
+        let back = self.client.edit(alloc, diff, true, steps)?;
         self.marks.record(back);
         Ok(())
     }
@@ -465,7 +465,7 @@ fn make<L: Ledger>(
     if diff.is_empty() {
         return Ok(diff);
     }
-    client.edit(alloc, diff, steps)
+    client.edit(alloc, diff, false, steps)
 }
 
 // That the ids of a diff rise is told by its length.

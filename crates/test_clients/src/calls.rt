@@ -45,7 +45,7 @@ fn edit_in<L: Ledger>(blank: Blank, alloc: Global, client: &mut Client, edit: Di
     requires some { 0 < blank.parts }
 {
     let mut steps = Steps::<L>::new(blank);
-    client.edit(alloc, edit, &mut steps)
+    client.edit(alloc, edit, false, &mut steps)
 }
 
 /// Does an edit, and answers what undoes it. The steps are counted for nobody.

@@ -1,5 +1,5 @@
 //! Messages that a peer refuses: what it shows, what its views have told and its marks are as before, and it takes a good
-//! message afterwards.
+//! message afterwards. And what a peer makes of a record that isn't admitted.
 ghost use Rattle.std.specs.Prelude.{◌≡◌, ◌<◌};
 
 use crate::calls::message;
@@ -7,6 +7,7 @@ use crate::messages::{diff, first, said};
 use crate::scripts::{difference, is_shown};
 use live_views::WatchId;
 use rooms_val::{Steps, Text, Val};
+use side_effects::EditFault;
 use std::alloc::Global;
 use std::marker::Brand;
 use std::process::Abort;
@@ -74,6 +75,23 @@ told | 0 is 1
 bail m | done | 3 owes 2: {"shape:a":$G(a,a0,0)}
 "#;
 
+/// A record that isn't admitted comes by an answer, and again by an undo. What is patched in it has to leave it admitted.
+const NOT_ADMITTED: &str = r#"
+# A text is no x, and a put acts all the same.
+connect 4 | connect 4 -1
+take answer 4 wipe_all 3 {"page:p":["put",$P],"shape:a":["put",$G(a,a0,"no")]} | taken | 3 owes 0: {"page:p":$P,"shape:a":$G(a,a0,"no")}
+edit {"shape:a":["remove"]} | done | 3 owes 1: {"page:p":$P}
+undo | true | 3 owes 2: {"page:p":$P,"shape:a":$G(a,a0,"no")}
+# Its opacity may be 50, but not while its x is a text.
+edit {"shape:a":["patch",{"opacity":["put",50]}]} | Invalid shape:a
+edit {"shape:a":["patch",{"x":["put",7]}]} | done | 3 owes 3: {"page:p":$P,"shape:a":$G(a,a0,7)}
+# The undo would patch the text back, which is passed over. So the redo of that does nothing.
+undo | true | 3 owes 4: {"page:p":$P,"shape:a":$G(a,a0,7)}
+undo | false
+redo | true
+edit {"shape:a":["patch",{"opacity":["put",50]}]} | done | 3 owes 5: {"page:p":$P,"shape:a":$G(a,a0,7,50)}
+"#;
+
 // The line isn't borrowed as a `str`, since the ledger couldn't be picked at such a call.
 fn call_in<L: Ledger>(
     blank: Blank,
@@ -90,6 +108,8 @@ fn call_in<L: Ledger>(
     match verb {
         "edit" => edit(alloc, peer, rest, &mut steps),
         "take" => take(alloc, peer, rest, &mut steps),
+        "undo" => Ok(format!(in alloc; "{}", peer.undo(alloc, &mut steps)?)?),
+        "redo" => Ok(format!(in alloc; "{}", peer.redo(alloc, &mut steps)?)?),
         "bail" => bail(alloc, peer, rest, &mut steps),
         "told" => told(alloc, peer, &mut steps),
         _ => Err(Fail::from("no call")),
@@ -146,7 +166,7 @@ fn push(alloc: Global, peer: &mut Peer) -> Result<String, Fail> {
     }
 }
 
-/// Does an edit.
+/// Does an edit, and answers the fault if there is one, with the id of a record that isn't admitted.
 fn edit<L: Ledger>(
     alloc: Global,
     peer: &mut Peer,
@@ -154,8 +174,11 @@ fn edit<L: Ledger>(
     steps: &mut Steps<L>,
 ) -> Result<String, Fail> {
     let edit = diff(alloc, text)?;
-    peer.edit(alloc, &edit, steps)?;
-    Ok(String::from_str(alloc, "done")?)
+    match peer.edit(alloc, &edit, steps) {
+        Ok(()) => Ok(String::from_str(alloc, "done")?),
+        Err(EditFault::Invalid(id, _)) => Ok(format!(in alloc; "Invalid {}", id.as_str())?),
+        Err(fault) => Ok(format!(in alloc; "{fault:?}")?),
+    }
 }
 
 /// Takes a message, and answers the fault if there is one.
@@ -253,6 +276,15 @@ fn difference_at(
 #[test]
 fn peers_are_as_before_a_message_that_they_refuse(rt: HostRuntime) -> Result<(), Fail> {
     let script = expanded(rt.alloc(), REFUSALS)?;
+    if let Some(difference) = difference_in(rt.alloc(), script.as_str())? {
+        assert_eq!(&rt; difference.as_str(), "");
+    }
+    Ok(())
+}
+
+#[test]
+fn peers_patch_what_is_not_admitted_only_to_what_is(rt: HostRuntime) -> Result<(), Fail> {
+    let script = expanded(rt.alloc(), NOT_ADMITTED)?;
     if let Some(difference) = difference_in(rt.alloc(), script.as_str())? {
         assert_eq!(&rt; difference.as_str(), "");
     }

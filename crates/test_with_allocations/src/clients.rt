@@ -63,7 +63,12 @@ fn call_in<L: Ledger>(
 {
     let mut steps = Steps::<L>::new(blank);
     match call {
-        Call::Edit(diff) => Ok(Answer::Back(client.edit(alloc, diff.copy(alloc)?, &mut steps)?)),
+        Call::Edit(diff) => Ok(Answer::Back(client.edit(
+            alloc,
+            diff.copy(alloc)?,
+            false,
+            &mut steps,
+        )?)),
         Call::Take(message) => taken(client.take(alloc, message, &mut steps)),
         Call::Presence(val) => presented(client.presence(alloc, val.copy(alloc)?)),
         Call::Connect(request) => asked(client.connect(alloc, *request)),

@@ -119,7 +119,7 @@ fn apply_in<D: DocStore, L: Ledger>(
     requires some { 0 < blank.parts }
 {
     let mut steps = Steps::<L>::new(blank);
-    apply(alloc, store, schema, diff, &mut steps)
+    apply(alloc, store, schema, false, diff, &mut steps)
 }
 
 /// Applies a diff. The steps are counted for nobody.

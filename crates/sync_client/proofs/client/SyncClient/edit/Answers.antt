@@ -8,8 +8,8 @@ pub returns-clause-ok : goal.returns-clause-ok
 returns-clause-ok g c =
     let records = g.D.DocStore.records in
     let old = c.args.self.now in
-    on_ok c.edit.result (λ told held stands.
-    after_work records held old c.edit.new.self (edit c.args.diff) stands (told (replica_of held) stands.replica) (λ shut. (c.args.diff, refl))) c.edit.ensures.ok
+    on_ok c.edit.result (λ told held stands is.
+    after_work records held old c.edit.new.self (edit c.args.diff) stands (told (replica_of held) stands.replica is) (λ shut. (c.args.diff, refl))) c.edit.ensures.ok
 
 pub returns-clause-err : goal.returns-clause-err
 returns-clause-err g c =

@@ -4,7 +4,7 @@ use Rattle.sync_peer.specs.Standing.{Edits}
 use Rattle.doc_model.specs.Marks.{after_edit}
 use Rattle.undo_marks.specs.Standing as marks
 use Rattle.sync_peer.specs.declared.peer.Peer.{Peer}
-use Rattle.sync_peer.proofs.PeerLemmas.{stands_on, completed_at, refused, back_is, marks_free, plain_back}
+use Rattle.sync_peer.proofs.PeerLemmas.{stands_on, completed_at, completed_at_acts, refused, back_is, marks_free, plain_back}
 use Rattle.sync_peer.proofs.peer.Peer.edit.Goals as goal
 
 pub returns-in_err-diff-clause-fault : goal.returns-in_err-diff-clause-fault
@@ -20,16 +20,20 @@ returns-clause-fault g c = λ schemas held stands.
     ∙ c.in_ok-diff.ensures)
 
 pub record-requires-clause-plain : goal.record-requires-clause-plain
-record-requires-clause-plain g c = plain_back _ _ c.in_ok-diff.diff c.in_ok-back.back c.in_ok-back.ensures.back
+record-requires-clause-plain g c =
+    let replica = c.args.self.now.client.replica in
+    let acts = completed_at_acts replica c.schema.result.now c.store.result.now c.args.wanted.now c.in_ok-diff.diff c.schema.ensures c.store.ensures.store c.in_ok-diff.ensures in
+    plain_back _ _ c.in_ok-diff.diff c.in_ok-back.back (c.in_ok-back.ensures.back acts)
 
 pub returns-clause-ok : goal.returns-clause-ok
 returns-clause-ok g c = λ schemas held stands.
     let old = c.args.self.now in
     let diff = c.in_ok-diff.diff in
+    let acts = completed_at_acts old.client.replica c.schema.result.now c.store.result.now c.args.wanted.now diff c.schema.ensures c.store.ensures.store c.in_ok-diff.ensures in
     let new : Peer = record { client = c.edit-2.new.self; marks = c.record.new.self } in
     let m = after_edit (back_of schemas held diff) held.client.marks in
     let is = completed_at schemas held old stands c.args.wanted.now c.tell_rising.ensures c.schema.result.now c.store.result.now c.schema.ensures c.store.ensures.store ∙ c.in_ok-diff.ensures in
     subst (λ r. Edits schemas held r new) (sym is)
-    (stands_on schemas held old stands (edited schemas diff held) new refl c.edit-2.ensures.schema (c.in_ok-back.ensures.ok (with_marks m held) (marks_free m held old.client stands.client))
-    (subst (λ b. marks.Stands (after_edit b held.client.marks) c.record.new.self) (c.in_ok-back.ensures.back ∙ back_is schemas held old stands diff)
+    (stands_on schemas held old stands (edited schemas diff held) new refl c.edit-2.ensures.schema (c.in_ok-back.ensures.ok (with_marks m held) (marks_free m held old.client stands.client) acts)
+    (subst (λ b. marks.Stands (after_edit b held.client.marks) c.record.new.self) (c.in_ok-back.ensures.back acts ∙ back_is schemas held old stands diff)
     (c.record.ensures.stands held.client.marks (c.edit.ensures.stands held.client.marks stands.marks))))
