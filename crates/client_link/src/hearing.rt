@@ -1,15 +1,13 @@
 //! What a text says that comes from a room.
 ghost use Rattle.std.specs.Prelude.{IfOk, IfErr};
 ghost use Rattle.client_link.specs.Hearing.{IsHeard, Refuses};
-ghost use Rattle.link_texts.specs.Hearing.{IfRefused, IsTaken};
+ghost use Rattle.link_texts.specs.Hearing.{IfRefused};
 
-use link_texts::{Unheard, WireFault};
-use rooms_val::Text;
+use link_texts::{Unheard, taken};
 use std::alloc::Global;
-use std::str;
 use sync_msgs::ServerMessage;
 use wire_msgs::read_server;
-use wire_text::{Assembler, PieceFault};
+use wire_text::Assembler;
 
 /// The most bytes of a room's message.
 pub const LONGEST_REPLY: usize = 67_108_864;
@@ -35,15 +33,4 @@ pub fn hear(
         None => Ok(None),
         Some(text) => Ok(Some(read_server(alloc, text.as_str().as_bytes())?)),
     }
-}
-
-// What an assembler gives for a text: another one that it completes, or none if more pieces follow.
-fn taken(alloc: Global, assembler: &mut Assembler, bytes: &[u8]) -> Result<Option<Text>, Unheard>
-    ensures taken { IfOk result (λ text. IsTaken assembler.old bytes.now text assembler.new) }
-    ensures refused { IfErr result (IfRefused (Refuses assembler.old bytes.now)) }
-{
-    let Ok(piece) = str::from_utf8(bytes) else {
-        return Err(Unheard::Refused(WireFault::Piece(PieceFault::BadPiece)));
-    };
-    Ok(assembler.feed(alloc, piece)?)
 }

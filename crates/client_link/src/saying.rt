@@ -1,9 +1,8 @@
 //! What a client says over a link.
-ghost use Rattle.std.specs.Prelude.{◌≡◌, pos, [], ◌∷◌, codes, IfOk, IsUtf8};
+ghost use Rattle.std.specs.Prelude.{◌≡◌, IfOk, IsUtf8};
 ghost use Rattle.client_link.specs.Sayings.{saying_val};
 ghost use Rattle.link_texts.specs.Joins.{join_val};
 ghost use Rattle.rooms_val.specs.Json.{text_of};
-ghost use Rattle.rooms_val.specs.Maps.{with_key};
 ghost use Rattle.rooms_val.specs.View.{data_of};
 
 use link_texts::Join;
@@ -45,21 +44,8 @@ impl Saying {
 fn val_of_join(alloc: Global, join: Join) -> Mem<Val>
     ensures { IfOk result (λ val. data_of val ≡ join_val join) }
 {
-    let fields = with(
-        alloc,
-        Fields::new(alloc),
-        "readonly",
-        Val::Bool(join.readonly),
-    )?;
-    let fields = with(alloc, fields, "room", Val::Int(i64::from(join.room)))?;
-    let fields = with(alloc, fields, "type", Val::Text(Text::of(alloc, "join")?))?;
+    let fields = Fields::new(alloc).with(alloc, "readonly", Val::Bool(join.readonly))?;
+    let fields = fields.with(alloc, "room", Val::Int(i64::from(join.room)))?;
+    let fields = fields.with(alloc, "type", Val::Text(Text::of(alloc, "join")?))?;
     Ok(Val::Map(fields))
-}
-
-// The map with a further field.
-fn with(alloc: Global, mut fields: Fields, key: &str, val: Val) -> Mem<Fields>
-    ensures { IfOk result (λ made. made ≡ with_key fields key.now (data_of val)) }
-{
-    drop(fields.put(Text::of(alloc, key)?, val)?);
-    Ok(fields)
 }

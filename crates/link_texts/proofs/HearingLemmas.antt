@@ -2,18 +2,16 @@
 use Rattle.std.proofs.Common.{◌≡◌, ℕ, inl, inr, List, Option, Result, Ok, Err, IfErr, IsErrAnd, sym, subst}
 use Rattle.std.specs.Prelude.{IsUtf8}
 use Rattle.link_texts.specs.Faults.{fault_of_piece}
-use Rattle.link_texts.specs.Hearing.{IsTaken, RefusesPiece, Refuses, IfRefused}
-use Rattle.link_texts.specs.declared.fault.Unheard.{Unheard}
-use Rattle.link_texts.specs.declared.fault.WireFault.{WireFault}
+use Rattle.link_texts.specs.Hearing.{IsTaken, RefusesPiece, RefusesText, Refuses, IfRefused}
 use Rattle.link_texts.proofs.PieceLemmas.{piece_or_none}
 use Rattle.wire_text.specs.Feeding.{PieceTree, Assembly, Says, IsNoPiece, given, after}
 use Rattle.wire_text.specs.declared.fault.PieceFault.{PieceFault}
 use Rattle.wire_text.specs.declared.fault.PieceFault.TheVariants as piece
 
 -- what `?` hands on
-pub refused_as : {T : Type 0} (P : WireFault → Type 0) (r : Result T Unheard) (e : Unheard) → IsErrAnd r (λ f. f ≡ e) → IfRefused P e → IfErr r (IfRefused P)
+pub refused_as : {T E : Type 0} (P : E → Type 0) (r : Result T E) (e : E) → IsErrAnd r (λ f. f ≡ e) → P e → IfErr r P
 refused_as P (Ok x) e is why = tt
-refused_as P (Err f) e is why = subst (IfRefused P) (sym is) why
+refused_as P (Err f) e is why = subst P (sym is) why
 
 -- what fails
 abbrev fails : PieceFault → Result (Option (List ℕ)) PieceFault
@@ -32,7 +30,7 @@ takes a b said bytes text (same, utf8) gives leaves bad = elim (piece_or_none sa
 
 -- bytes that an assembler refuses are a piece that it refuses, or none
 pub refuses_piece : (a : Assembly) (said bytes : List ℕ) (f : PieceFault) → (said ≡ bytes) × IsUtf8 bytes
-    → ((p : PieceTree) → Says p said → ¬ (f ≡ piece.OutOfMemory) → given a p ≡ Err f) → (IsNoPiece said → f ≡ piece.BadPiece) → IfRefused (Refuses a bytes) (fault_of_piece f)
+    → ((p : PieceTree) → Says p said → ¬ (f ≡ piece.OutOfMemory) → given a p ≡ Err f) → (IsNoPiece said → f ≡ piece.BadPiece) → RefusesText a bytes f
 refuses_piece a said bytes f (same, utf8) gives bad = by f gives bad
   where
     because : (f : PieceFault) → ¬ (f ≡ piece.OutOfMemory) → ((p : PieceTree) → Says p said → ¬ (f ≡ piece.OutOfMemory) → given a p ≡ Err f)
@@ -43,8 +41,15 @@ refuses_piece a said bytes f (same, utf8) gives bad = by f gives bad
     ]
 
     by : (f : PieceFault) → ((p : PieceTree) → Says p said → ¬ (f ≡ piece.OutOfMemory) → given a p ≡ Err f)
-        → (IsNoPiece said → f ≡ piece.BadPiece) → IfRefused (Refuses a bytes) (fault_of_piece f)
+        → (IsNoPiece said → f ≡ piece.BadPiece) → RefusesText a bytes f
     by piece.BadPiece gives bad = because piece.BadPiece (λ e. cc) gives bad
     by (piece.OutOfTurn wanted came) gives bad = because (piece.OutOfTurn wanted came) (λ e. cc) gives bad
     by piece.TooLong gives bad = because piece.TooLong (λ e. cc) gives bad
     by piece.OutOfMemory gives bad = tt
+
+-- a text that an assembler doesn't take is refused for that
+pub refuses_taken : (a : Assembly) (bytes : List ℕ) (f : PieceFault) → RefusesText a bytes f → IfRefused (Refuses a bytes) (fault_of_piece f)
+refuses_taken a bytes piece.BadPiece why = why
+refuses_taken a bytes (piece.OutOfTurn wanted came) why = why
+refuses_taken a bytes piece.TooLong why = why
+refuses_taken a bytes piece.OutOfMemory why = tt

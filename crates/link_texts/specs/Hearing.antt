@@ -10,6 +10,7 @@ use Rattle.wire_msgs.specs.declared.fault.MsgFault.{MsgFault}
 use Rattle.wire_msgs.specs.declared.fault.MsgFault.TheVariants as msg_fault
 use Rattle.wire_text.specs.Feeding.{PieceTree, Says, Assembly, given, after}
 use Rattle.wire_text.specs.declared.fault.PieceFault.{PieceFault}
+use Rattle.wire_text.specs.declared.fault.PieceFault.TheVariants as piece_fault
 use Rattle.wire_text.specs.declared.fault.PieceFault.TheVariants.{BadPiece}
 
 -- the bytes are a piece in UTF-8
@@ -44,6 +45,11 @@ abbrev pub RefusesPiece : Assembly → List ℕ → PieceFault → Type 0
 RefusesPiece before bytes fault =
     (((piece : PieceTree) → IsPiece bytes piece → ⊥) × (fault ≡ BadPiece))
     ⊎ ((piece : PieceTree) × IsPiece bytes piece × (given before piece ≡ Err fault))
+
+-- why an assembler doesn't take a text, where memory wasn't refused
+abbrev pub RefusesText : Assembly → List ℕ → PieceFault → Type 0
+RefusesText before bytes piece_fault.OutOfMemory = Unit {0}
+RefusesText before bytes fault = RefusesPiece before bytes fault
 
 -- a text completes another one that stands for no message
 pub record RefusesMessage (before : Assembly) (bytes : List ℕ) (fault : MsgFault) : Type 0 where

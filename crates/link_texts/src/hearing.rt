@@ -1,8 +1,8 @@
 //! What a text of a link says.
 ghost use Rattle.std.specs.Prelude.{◌≡◌, IfOk, IfErr};
-ghost use Rattle.link_texts.specs.Hearing.{IsHeard, IsTaken, Refuses, IfRefused};
+ghost use Rattle.link_texts.specs.Hearing.{IsHeard, IsTaken, Refuses, RefusesText, IfRefused};
 
-use crate::fault::{Unheard, WireFault};
+use crate::fault::Unheard;
 use rooms_val::Text;
 use std::alloc::Global;
 use std::str;
@@ -37,13 +37,25 @@ pub fn hear(
     }
 }
 
-// What an assembler gives for a text: another one that it completes, or none if more pieces follow.
-fn taken(alloc: Global, assembler: &mut Assembler, bytes: &[u8]) -> Result<Option<Text>, Unheard>
+/// What an assembler gives for a text: another one that it completes, or none if more pieces follow.
+///
+/// # Errors
+///
+/// `BadPiece` exactly if the text is no piece in UTF-8. Else the fault of the piece, if it isn't the
+/// one that comes next, or makes a text that is too long for the assembler. `OutOfMemory` if memory
+/// was refused. Of the assembler nothing is said then.
+///
+/// Costs the text, and the one that it completes.
+pub fn taken(
+    alloc: Global,
+    assembler: &mut Assembler,
+    bytes: &[u8],
+) -> Result<Option<Text>, PieceFault>
     ensures taken { IfOk result (λ text. IsTaken assembler.old bytes.now text assembler.new) }
-    ensures refused { IfErr result (IfRefused (Refuses assembler.old bytes.now)) }
+    ensures refused { IfErr result (RefusesText assembler.old bytes.now) }
 {
     let Ok(piece) = str::from_utf8(bytes) else {
-        return Err(Unheard::Refused(WireFault::Piece(PieceFault::BadPiece)));
+        return Err(PieceFault::BadPiece);
     };
     Ok(assembler.feed(alloc, piece)?)
 }

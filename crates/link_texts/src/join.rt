@@ -6,7 +6,6 @@ ghost use Rattle.link_texts.specs.declared.fault.WireFault.TheVariants as wire;
 ghost use Rattle.link_texts.specs.declared.join.Join.{Join};
 ghost use Rattle.rooms_val.specs.Json.{text_of};
 ghost use Rattle.rooms_val.specs.Kinds.{as_truth};
-ghost use Rattle.rooms_val.specs.Maps.{with_key};
 ghost use Rattle.rooms_val.specs.View.{data_of};
 ghost use Rattle.rooms_val.specs.declared.fault.ValFault.TheVariants as val_fault;
 
@@ -62,24 +61,11 @@ impl Join {
         ensures value { IfOk result (λ val. data_of val ≡ join_val self) }
         ensures small { self.room < 2 ^ 32 }
     {
-        let fields = with(
-            alloc,
-            Fields::new(alloc),
-            "readonly",
-            Val::Bool(self.readonly),
-        )?;
-        let fields = with(alloc, fields, "room", Val::Int(i64::from(self.room)))?;
-        let fields = with(alloc, fields, "type", Val::Text(Text::of(alloc, "join")?))?;
+        let fields = Fields::new(alloc).with(alloc, "readonly", Val::Bool(self.readonly))?;
+        let fields = fields.with(alloc, "room", Val::Int(i64::from(self.room)))?;
+        let fields = fields.with(alloc, "type", Val::Text(Text::of(alloc, "join")?))?;
         Ok(Val::Map(fields))
     }
-}
-
-// The map with a further field.
-fn with(alloc: Global, mut fields: Fields, key: &str, val: Val) -> Mem<Fields>
-    ensures { IfOk result (λ made. made ≡ with_key fields key.now (data_of val)) }
-{
-    drop(fields.put(Text::of(alloc, key)?, val)?);
-    Ok(fields)
 }
 
 // Why a text that is no value isn't taken.

@@ -13,6 +13,6 @@ mod join;
 mod sending;
 
 pub use fault::{Unheard, WireFault};
-pub use hearing::{LONGEST_MESSAGE, hear};
+pub use hearing::{LONGEST_MESSAGE, hear, taken};
 pub use join::Join;
 pub use sending::Sent;

@@ -2,7 +2,6 @@
 ghost use Rattle.std.specs.Prelude.{◌≡◌, ◌∷◌, ◌++◌, codes, decimal, IfOk};
 ghost use Rattle.rooms_val.specs.Data.{text};
 ghost use Rattle.rooms_val.specs.Maps.{with_key};
-ghost use Rattle.rooms_val.specs.View.{data_of};
 ghost use Rattle.load_maker.specs.Records.{page, shape_id, says, later_props, props, shape, presence};
 ghost use Rattle.load_maker.specs.Records.{early_fields, later_fields};
 
@@ -16,7 +15,7 @@ pub(crate) fn page(alloc: Global) -> Mem<Fields>
 {
     let fields = with_text(alloc, Fields::new(alloc), "id", "page:p")?;
     let fields = with_text(alloc, fields, "index", "a0")?;
-    let fields = with(alloc, fields, "meta", Val::Map(Fields::new(alloc)))?;
+    let fields = fields.with(alloc, "meta", Val::Map(Fields::new(alloc)))?;
     let fields = with_text(alloc, fields, "name", "P")?;
     with_text(alloc, fields, "typeName", "page")
 }
@@ -44,9 +43,9 @@ pub(crate) fn shape(alloc: Global, version: u32, number: u32, x: u32) -> Mem<Fie
 {
     let fields = bare_shape(alloc, number, props(alloc, version)?, x)?;
     if version <= 1 {
-        with(alloc, fields, "alpha", Val::Int(10))
+        fields.with(alloc, "alpha", Val::Int(10))
     } else {
-        with(alloc, fields, "opacity", Val::Int(100))
+        fields.with(alloc, "opacity", Val::Int(100))
     }
 }
 
@@ -55,17 +54,17 @@ fn bare_shape(alloc: Global, number: u32, props: Fields, x: u32) -> Mem<Fields>
     ensures { IfOk result (λ fields. fields ≡ early_fields number ++ later_fields props x) }
 {
     let id = Val::Text(shape_id(alloc, number)?);
-    let fields = with(alloc, Fields::new(alloc), "id", id)?;
+    let fields = Fields::new(alloc).with(alloc, "id", id)?;
     let fields = with_text(alloc, fields, "index", "a1")?;
-    let fields = with(alloc, fields, "isLocked", Val::Bool(false))?;
-    let fields = with(alloc, fields, "meta", Val::Map(Fields::new(alloc)))?;
+    let fields = fields.with(alloc, "isLocked", Val::Bool(false))?;
+    let fields = fields.with(alloc, "meta", Val::Map(Fields::new(alloc)))?;
     let fields = with_text(alloc, fields, "parentId", "page:p")?;
-    let fields = with(alloc, fields, "props", Val::Map(props))?;
-    let fields = with(alloc, fields, "rotation", Val::Int(0))?;
+    let fields = fields.with(alloc, "props", Val::Map(props))?;
+    let fields = fields.with(alloc, "rotation", Val::Int(0))?;
     let fields = with_text(alloc, fields, "type", "geo")?;
     let fields = with_text(alloc, fields, "typeName", "shape")?;
-    let fields = with(alloc, fields, "x", Val::Int(i64::from(x)))?;
-    with(alloc, fields, "y", Val::Int(0))
+    let fields = fields.with(alloc, "x", Val::Int(i64::from(x)))?;
+    fields.with(alloc, "y", Val::Int(0))
 }
 
 // The properties of a shape, as a version has them.
@@ -87,10 +86,10 @@ fn common_props(alloc: Global) -> Mem<Fields>
     let fields = with_text(alloc, Fields::new(alloc), "color", "black")?;
     let fields = with_text(alloc, fields, "fill", "none")?;
     let fields = with_text(alloc, fields, "geo", "rectangle")?;
-    let fields = with(alloc, fields, "h", Val::Int(10))?;
+    let fields = fields.with(alloc, "h", Val::Int(10))?;
     let fields = with_text(alloc, fields, "size", "m")?;
     let fields = with_text(alloc, fields, "text", "")?;
-    with(alloc, fields, "w", Val::Int(10))
+    fields.with(alloc, "w", Val::Int(10))
 }
 
 /// The presence of a client.
@@ -99,37 +98,19 @@ pub(crate) fn presence(alloc: Global, client: u32, x: u32) -> Mem<Fields>
 {
     let fields = with_text(alloc, Fields::new(alloc), "color", "red")?;
     let fields = with_text(alloc, fields, "currentPageId", "page:p")?;
-    let cursor = with(alloc, Fields::new(alloc), "x", Val::Int(i64::from(x)))?;
-    let cursor = with(alloc, cursor, "y", Val::Int(0))?;
-    let fields = with(alloc, fields, "cursor", Val::Map(cursor))?;
+    let cursor = Fields::new(alloc).with(alloc, "x", Val::Int(i64::from(x)))?;
+    let cursor = cursor.with(alloc, "y", Val::Int(0))?;
+    let fields = fields.with(alloc, "cursor", Val::Map(cursor))?;
     let fields = with_text(alloc, fields, "id", "instance_presence:me")?;
-    let fields = with(alloc, fields, "meta", Val::Map(Fields::new(alloc)))?;
-    let fields = with(
-        alloc,
-        fields,
-        "selectedShapeIds",
-        Val::List(Vals::new(alloc)),
-    )?;
+    let fields = fields.with(alloc, "meta", Val::Map(Fields::new(alloc)))?;
+    let fields = fields.with(alloc, "selectedShapeIds", Val::List(Vals::new(alloc)))?;
     let fields = with_text(alloc, fields, "typeName", "instance_presence")?;
-    with(
-        alloc,
-        fields,
-        "userName",
-        Val::Text(numbered(alloc, "c", client)?),
-    )
+    fields.with(alloc, "userName", Val::Text(numbered(alloc, "c", client)?))
 }
 
 // The map with a further text.
 fn with_text(alloc: Global, fields: Fields, key: &str, said: &str) -> Mem<Fields>
     ensures { IfOk result (λ made. made ≡ with_key fields key.now (text said.now)) }
 {
-    with(alloc, fields, key, Val::Text(Text::of(alloc, said)?))
-}
-
-// The map with a further field.
-fn with(alloc: Global, mut fields: Fields, key: &str, val: Val) -> Mem<Fields>
-    ensures { IfOk result (λ made. made ≡ with_key fields key.now (data_of val)) }
-{
-    drop(fields.put(Text::of(alloc, key)?, val)?);
-    Ok(fields)
+    fields.with(alloc, key, Val::Text(Text::of(alloc, said)?))
 }

@@ -16,6 +16,7 @@ use Rattle.view_vals.specs.Queries.{query_data}
 use Rattle.view_vals.specs.Views.{view_data}
 use Rattle.view_vals.proofs.AskingLemmas.{ask_the_same}
 use Rattle.view_vals.proofs.ViewsLemmas.{one_view}
+use Rattle.wire_msgs.proofs.ReadsLemmas.{ok_same, no_ok}
 use Rattle.rec_format.specs.Events.{event_fields, header_fields, header_val}
 use Rattle.rec_format.specs.Laws.{IsSame}
 use Rattle.rec_format.specs.Lines.{IsEvent, IsHeader, IsUnknown, RefusesLine, RefusesHeader, word_in}
@@ -66,7 +67,7 @@ abbrev texts_in : Data → List (List ℕ)
 texts_in (data'.list ds) = each_text ds
 texts_in d = []
 
-texts_in-ids_data : (ids : List (List ℕ)) → texts_in (ids_data ids) ≡ ids
+pub texts_in-ids_data : (ids : List (List ℕ)) → texts_in (ids_data ids) ≡ ids
 texts_in-ids_data [] = refl
 texts_in-ids_data (id ∷ ids) = ap (λ rest. id ∷ rest) (texts_in-ids_data ids)
 
@@ -78,7 +79,7 @@ abbrev changes_in : Pairs → RecordOps
 changes_in [] = []
 changes_in (p ∷ ps) = (p.0, change_in p.1) ∷ changes_in ps
 
-changes_in-diff_pairs : (cs : RecordOps) → changes_in (diff_pairs cs) ≡ cs
+pub changes_in-diff_pairs : (cs : RecordOps) → changes_in (diff_pairs cs) ≡ cs
 changes_in-diff_pairs [] = refl
 changes_in-diff_pairs (c ∷ cs) = λ i. (c.0, change_in-change_data c.1 i) ∷ changes_in-diff_pairs cs i
 
@@ -176,12 +177,6 @@ pub one_header : (a b : Header) → header_val a ≡ header_val b → a ≡ b
 one_header a b is =
     let fields = same_map (header_fields a) (header_fields b) is in
     λ i. record { version = number_in (second (fields i)) }
-
-ok_same : {T E : Type 0} (r : Result T E) (x y : T) → r ≡ Ok x → r ≡ Ok y → x ≡ y
-ok_same r x y is_x is_y = let is : Ok x ≡ Ok y = sym is_x ∙ is_y in cc
-
-no_ok : {T E : Type 0} {A : Type 0} (r : Result T E) (x : T) (e : E) → r ≡ Ok x → r ≡ Err e → A
-no_ok r x e is_ok is_err = absurd (let is : Ok x ≡ Err e = sym is_ok ∙ is_err in cc)
 
 too_long : {A : Type 0} (n m : ℕ) → n ≤ m → m < n → A
 too_long n m short long = absurd (omega (arith, short, long))

@@ -11,7 +11,7 @@
 mod clips;
 mod entries;
 pub mod fault;
-mod fields;
+pub mod fields;
 pub mod laws;
 pub mod out;
 pub mod print;

@@ -8,7 +8,7 @@ ghost use Rattle.rec_format.specs.Outs.{clock_and_doc, show_fields, end_fields, 
 ghost use Rattle.rec_format.specs.Outs.{from_fields, to_fields};
 ghost use Rattle.rec_format.specs.Printed.{printed_fields, printed_text, ids_fields, told_fields};
 
-use crate::fields::{number, with};
+use crate::fields::number;
 use crate::printed::PrintedLine;
 use room_model::OutLine;
 use rooms_val::{Fields, Mem, Text, Val, Vals};
@@ -81,22 +81,22 @@ fn fields_of(alloc: Global, line: &OutLine) -> Mem<Fields>
 fn undo_fields(alloc: Global, client: u64, done: bool) -> Mem<Fields>
     ensures { IfOk result (λ fields. fields ≡ undo_fields client done) }
 {
-    let fields = with(alloc, Fields::new(alloc), "client", number(client))?;
-    with(alloc, fields, "undo", Val::Bool(done))
+    let fields = Fields::new(alloc).with(alloc, "client", number(client))?;
+    fields.with(alloc, "undo", Val::Bool(done))
 }
 
 fn redo_fields(alloc: Global, client: u64, done: bool) -> Mem<Fields>
     ensures { IfOk result (λ fields. fields ≡ redo_fields client done) }
 {
-    let fields = with(alloc, Fields::new(alloc), "client", number(client))?;
-    with(alloc, fields, "redo", Val::Bool(done))
+    let fields = Fields::new(alloc).with(alloc, "client", number(client))?;
+    fields.with(alloc, "redo", Val::Bool(done))
 }
 
 fn ended_fields(alloc: Global, client: u64, reason: EndReason) -> Mem<Fields>
     ensures { IfOk result (λ fields. fields ≡ ended_fields client reason) }
 {
-    let fields = with(alloc, Fields::new(alloc), "client", number(client))?;
-    with(alloc, fields, "ended", reason_val(alloc, reason)?)
+    let fields = Fields::new(alloc).with(alloc, "client", number(client))?;
+    fields.with(alloc, "ended", reason_val(alloc, reason)?)
 }
 
 fn show_fields(
@@ -111,9 +111,9 @@ fn show_fields(
         fields ≡ show_fields client clock (data_of doc.now) (data_of others.now) owed) }
 {
     let fields = clock_and_doc(alloc, Val::Int(clock), doc)?;
-    let fields = with(alloc, fields, "others", others.copy(alloc)?)?;
-    let fields = with(alloc, fields, "owed", number(owed))?;
-    Ok(with(alloc, fields, "show", number(client))?)
+    let fields = fields.with(alloc, "others", others.copy(alloc)?)?;
+    let fields = fields.with(alloc, "owed", number(owed))?;
+    Ok(fields.with(alloc, "show", number(client))?)
 }
 
 fn end_fields(alloc: Global, clock: i64, doc: &Val, presence: &Val) -> Mem<Fields>
@@ -121,52 +121,52 @@ fn end_fields(alloc: Global, clock: i64, doc: &Val, presence: &Val) -> Mem<Field
         fields ≡ end_fields clock (data_of doc.now) (data_of presence.now)) }
 {
     let fields = clock_and_doc(alloc, Val::Int(clock), doc)?;
-    let fields = with(alloc, fields, "end", Val::Bool(true))?;
-    with(alloc, fields, "presence", presence.copy(alloc)?)
+    let fields = fields.with(alloc, "end", Val::Bool(true))?;
+    fields.with(alloc, "presence", presence.copy(alloc)?)
 }
 
 // The fields that a client and the room show alike.
 fn clock_and_doc(alloc: Global, clock: Val, doc: &Val) -> Mem<Fields>
     ensures { IfOk result (λ fields. fields ≡ clock_and_doc (data_of clock) (data_of doc.now)) }
 {
-    let fields = with(alloc, Fields::new(alloc), "clock", clock)?;
-    with(alloc, fields, "doc", doc.copy(alloc)?)
+    let fields = Fields::new(alloc).with(alloc, "clock", clock)?;
+    fields.with(alloc, "doc", doc.copy(alloc)?)
 }
 
 fn from_fields(alloc: Global, session: u64, message: &ClientMessage) -> Mem<Fields>
     ensures { IfOk result (λ fields. fields ≡ from_fields session message.now) }
 {
-    let fields = with(alloc, Fields::new(alloc), "from", number(session))?;
-    with(alloc, fields, "message", message.val(alloc)?)
+    let fields = Fields::new(alloc).with(alloc, "from", number(session))?;
+    fields.with(alloc, "message", message.val(alloc)?)
 }
 
 fn to_fields(alloc: Global, session: u64, message: &ServerMessage) -> Mem<Fields>
     ensures { IfOk result (λ fields. fields ≡ to_fields session message.now) }
 {
-    let fields = with(alloc, Fields::new(alloc), "message", message.val(alloc)?)?;
-    with(alloc, fields, "to", number(session))
+    let fields = Fields::new(alloc).with(alloc, "message", message.val(alloc)?)?;
+    fields.with(alloc, "to", number(session))
 }
 
 fn ending_fields(alloc: Global, session: u64, reason: EndReason) -> Mem<Fields>
     ensures { IfOk result (λ fields. fields ≡ ending_fields session reason) }
 {
-    let fields = with(alloc, Fields::new(alloc), "end", reason_val(alloc, reason)?)?;
-    with(alloc, fields, "to", number(session))
+    let fields = Fields::new(alloc).with(alloc, "end", reason_val(alloc, reason)?)?;
+    fields.with(alloc, "to", number(session))
 }
 
 fn fault_fields(alloc: Global, at: u64, name: &Text) -> Mem<Fields>
     ensures { IfOk result (λ fields. fields ≡ fault_fields at name.now) }
 {
-    let fields = with(alloc, Fields::new(alloc), "at", number(at))?;
-    with(alloc, fields, "fault", Val::Text(name.copy(alloc)?))
+    let fields = Fields::new(alloc).with(alloc, "at", number(at))?;
+    fields.with(alloc, "fault", Val::Text(name.copy(alloc)?))
 }
 
 fn ids_fields(alloc: Global, client: u64, ids: &[Text]) -> Mem<Fields>
     ensures { IfOk result (λ fields. fields ≡ ids_fields client ids.now) }
 {
-    let fields = with(alloc, Fields::new(alloc), "client", number(client))?;
-    let fields = with(alloc, fields, "ids", Val::List(ids_vals(alloc, ids)?))?;
-    with(alloc, fields, "query", Val::Bool(true))
+    let fields = Fields::new(alloc).with(alloc, "client", number(client))?;
+    let fields = fields.with(alloc, "ids", Val::List(ids_vals(alloc, ids)?))?;
+    fields.with(alloc, "query", Val::Bool(true))
 }
 
 // Each id as a value.
@@ -183,9 +183,9 @@ pub(crate) fn ids_vals(alloc: Global, ids: &[Text]) -> Mem<Vals>
 fn told_fields(alloc: Global, client: u64, told: &Val, watch: u32) -> Mem<Fields>
     ensures { IfOk result (λ fields. fields ≡ told_fields client (data_of told.now) watch) }
 {
-    let fields = with(alloc, Fields::new(alloc), "client", number(client))?;
-    let fields = with(alloc, fields, "told", told.copy(alloc)?)?;
-    with(alloc, fields, "watch", Val::Int(i64::from(watch)))
+    let fields = Fields::new(alloc).with(alloc, "client", number(client))?;
+    let fields = fields.with(alloc, "told", told.copy(alloc)?)?;
+    fields.with(alloc, "watch", Val::Int(i64::from(watch)))
 }
 
 // The name of a reason, as a value.

@@ -11,7 +11,7 @@ ghost use Rattle.rec_format.specs.Recorded.{recorded_val, recorded_fields, IsPro
 ghost use Rattle.rec_format.specs.Recorded.{watch_fields, query_fields};
 ghost use Rattle.rec_format.specs.declared.recorded.RecordedEvent.TheVariants as recorded;
 
-use crate::fields::{number, with};
+use crate::fields::number;
 use crate::out::ids_vals;
 use crate::read::LONGEST_LINE;
 use crate::recorded::RecordedEvent;
@@ -83,7 +83,7 @@ fn watch_fields(alloc: Global, client: u64, view: &View) -> Mem<Fields>
     ensures fits { IfOk result (λ fields. Fits client → fields ≡ watch_fields client view.now) }
 {
     let fields = of_client(alloc, Verb::Watch, client)?;
-    with(alloc, fields, "view", view_val(alloc, view)?)
+    fields.with(alloc, "view", view_val(alloc, view)?)
 }
 
 fn query_fields(alloc: Global, client: u64, type_name: &Text, where_: &Query) -> Mem<Fields>
@@ -93,8 +93,8 @@ fn query_fields(alloc: Global, client: u64, type_name: &Text, where_: &Query) ->
         Fits client → fields ≡ query_fields client type_name.now where_.now) }
 {
     let fields = of_client(alloc, Verb::Query, client)?;
-    let fields = with(alloc, fields, "type", Val::Text(type_name.copy(alloc)?))?;
-    with(alloc, fields, "where", query_val(alloc, where_)?)
+    let fields = fields.with(alloc, "type", Val::Text(type_name.copy(alloc)?))?;
+    fields.with(alloc, "where", query_val(alloc, where_)?)
 }
 
 // The fields of an event.
@@ -105,19 +105,19 @@ fn fields_of(alloc: Global, event: &Event) -> Mem<Fields>
     match event {
         Event::Client { version } => {
             let fields = verb_alone(alloc, Verb::Client)?;
-            with(alloc, fields, "version", Val::Int(i64::from(*version)))
+            fields.with(alloc, "version", Val::Int(i64::from(*version)))
         }
         Event::Connect { client, readonly } => {
             let fields = of_client(alloc, Verb::Connect, *client)?;
-            with(alloc, fields, "readonly", Val::Bool(*readonly))
+            fields.with(alloc, "readonly", Val::Bool(*readonly))
         }
         Event::Edit { client, diff } => {
             let fields = of_client(alloc, Verb::Edit, *client)?;
-            with(alloc, fields, "diff", diff_val(alloc, diff)?)
+            fields.with(alloc, "diff", diff_val(alloc, diff)?)
         }
         Event::Presence { client, record_ } => {
             let fields = of_client(alloc, Verb::Presence, *client)?;
-            with(alloc, fields, "record", record_.copy(alloc)?)
+            fields.with(alloc, "record", record_.copy(alloc)?)
         }
         Event::Mark { client, name } => of_client_and_name(alloc, Verb::Mark, *client, name),
         Event::Undo { client } => of_client(alloc, Verb::Undo, *client),
@@ -125,12 +125,7 @@ fn fields_of(alloc: Global, event: &Event) -> Mem<Fields>
         Event::Bail { client, name } => of_client_and_name(alloc, Verb::Bail, *client, name),
         Event::Copy { client, ids } => {
             let fields = of_client(alloc, Verb::Copy, *client)?;
-            with(
-                alloc,
-                fields,
-                "ids",
-                Val::List(ids_vals(alloc, ids.as_slice())?),
-            )
+            fields.with(alloc, "ids", Val::List(ids_vals(alloc, ids.as_slice())?))
         }
         Event::Paste {
             client,
@@ -140,10 +135,10 @@ fn fields_of(alloc: Global, event: &Event) -> Mem<Fields>
             prefix,
         } => {
             let fields = of_client(alloc, Verb::Paste, *client)?;
-            let fields = with(alloc, fields, "dx", Val::Int(*dx))?;
-            let fields = with(alloc, fields, "dy", Val::Int(*dy))?;
-            let fields = with(alloc, fields, "parent", Val::Text(parent.copy(alloc)?))?;
-            with(alloc, fields, "prefix", Val::Text(prefix.copy(alloc)?))
+            let fields = fields.with(alloc, "dx", Val::Int(*dx))?;
+            let fields = fields.with(alloc, "dy", Val::Int(*dy))?;
+            let fields = fields.with(alloc, "parent", Val::Text(parent.copy(alloc)?))?;
+            fields.with(alloc, "prefix", Val::Text(prefix.copy(alloc)?))
         }
         Event::Handle { session } => of_session(alloc, Verb::Handle, *session),
         Event::Send { session } => of_session(alloc, Verb::Send, *session),
@@ -159,12 +154,7 @@ fn fields_of(alloc: Global, event: &Event) -> Mem<Fields>
 fn verb_alone(alloc: Global, verb: Verb) -> Mem<Fields>
     ensures { IfOk result (λ fields. fields ≡ does verb ∷ []) }
 {
-    with(
-        alloc,
-        Fields::new(alloc),
-        "do",
-        Val::Text(Text::of(alloc, verb.word())?),
-    )
+    Fields::new(alloc).with(alloc, "do", Val::Text(Text::of(alloc, verb.word())?))
 }
 
 // The fields of an event of a client that has no further one.
@@ -172,7 +162,7 @@ fn of_client(alloc: Global, verb: Verb, client: u64) -> Mem<Fields>
     ensures printed { IfOk result (λ fields. fields ≡ of_client verb (number_printed client)) }
     ensures fits { IfOk result (λ fields. Fits client → fields ≡ of_client verb client) }
 {
-    with(alloc, verb_alone(alloc, verb)?, "client", number(client))
+    verb_alone(alloc, verb)?.with(alloc, "client", number(client))
 }
 
 // The fields of an event of a client that has a name.
@@ -182,7 +172,7 @@ fn of_client_and_name(alloc: Global, verb: Verb, client: u64, name: &Text) -> Me
     ensures fits { IfOk result (λ fields. Fits client → fields ≡ with_name verb client name.now) }
 {
     let fields = of_client(alloc, verb, client)?;
-    with(alloc, fields, "name", Val::Text(name.copy(alloc)?))
+    fields.with(alloc, "name", Val::Text(name.copy(alloc)?))
 }
 
 // The fields of an event of a session.
@@ -190,5 +180,5 @@ fn of_session(alloc: Global, verb: Verb, session: u64) -> Mem<Fields>
     ensures printed { IfOk result (λ fields. fields ≡ of_session verb (number_printed session)) }
     ensures fits { IfOk result (λ fields. Fits session → fields ≡ of_session verb session) }
 {
-    with(alloc, verb_alone(alloc, verb)?, "session", number(session))
+    verb_alone(alloc, verb)?.with(alloc, "session", number(session))
 }

@@ -2,16 +2,12 @@
 ghost use Rattle.std.specs.Prelude.{◌≡◌, true, IfOk};
 ghost use Rattle.rooms_val.specs.Data.{boolean};
 ghost use Rattle.rooms_val.specs.Maps.{with_key};
-ghost use Rattle.rooms_val.specs.View.{data_of};
-ghost use Rattle.rec_format.specs.Outs.{number_val};
 ghost use Rattle.room_join.specs.Lines.{client_alone, line_fields, end_fields, fields_text, written_line};
 
+use rec_format::fields::number;
 use rec_format::{PrintedLine, print_line};
-use rooms_val::{Fields, Mem, Text, Val};
+use rooms_val::{Fields, Mem, Val};
 use std::alloc::Global;
-
-// The greatest number that is printed.
-const MOST_PRINTED: u64 = 9_223_372_036_854_775_807;
 
 /// A line that a client prints.
 #[derive(Drop)]
@@ -60,34 +56,15 @@ impl JoinLine {
 fn client_fields(alloc: Global, what: &str) -> Mem<Fields>
     ensures { IfOk result (λ fields. fields ≡ with_key client_alone what.now (boolean true)) }
 {
-    let fields = with(alloc, Fields::new(alloc), "client", Val::Int(0))?;
-    with(alloc, fields, what, Val::Bool(true))
+    let fields = Fields::new(alloc).with(alloc, "client", Val::Int(0))?;
+    fields.with(alloc, what, Val::Bool(true))
 }
 
 // The fields of the line at the end.
 fn end_fields(alloc: Global, clock: i64, owed: u64) -> Mem<Fields>
     ensures { IfOk result (λ fields. fields ≡ end_fields clock owed) }
 {
-    let fields = with(alloc, Fields::new(alloc), "clock", Val::Int(clock))?;
-    let fields = with(alloc, fields, "end", Val::Bool(true))?;
-    with(alloc, fields, "owed", number(owed))
-}
-
-// The map with a further field.
-fn with(alloc: Global, mut fields: Fields, key: &str, val: Val) -> Mem<Fields>
-    ensures { IfOk result (λ made. made ≡ with_key fields key.now (data_of val)) }
-{
-    drop(fields.put(Text::of(alloc, key)?, val)?);
-    Ok(fields)
-}
-
-// The value of a number, or of 2^63 - 1 where that is less.
-fn number(number: u64) -> Val
-    ensures { data_of result ≡ number_val number }
-{
-    if number <= MOST_PRINTED {
-        Val::Int(number as i64)
-    } else {
-        Val::Int(MOST_PRINTED as i64)
-    }
+    let fields = Fields::new(alloc).with(alloc, "clock", Val::Int(clock))?;
+    let fields = fields.with(alloc, "end", Val::Bool(true))?;
+    fields.with(alloc, "owed", number(owed))
 }

@@ -13,18 +13,24 @@ use rooms_val::Mem;
 use std::alloc::Global;
 use sync_msgs::{EndReason, Out};
 
-// What is noted of a link while it is served.
+/// What is noted of a link while it is served: what came, what went out, and what ends the service.
+/// A `Report` tells it once the service has ended.
+///
+/// The service goes on as long as no text was refused, the link had no fault and wasn't closed, and
+/// memory wasn't refused. No call on an account answers an error: where a call on the link gives no
+/// answer, the cause is noted in `fault` or in `memory`.
 #[derive(Clone, Copy, Debug, PartialEq, Eq)]
 pub struct Account {
-    // the number of texts that came; it stays at 2^64 - 1
+    // How many texts came, the one that names the room among them, from 0. It stays at 2^64 - 1.
     pub(crate) texts: u64,
-    // what went out
+    // How many texts went out, which stays at 2^64 - 1, and the reason of the last close; none if
+    // the link wasn't closed.
     pub(crate) sent: Sent,
-    // why a text was refused, if one was
+    // Why a text was refused; none if none was.
     pub(crate) wire: Option<WireFault>,
-    // whether the link had a fault
+    // Whether a call on the link failed. Then the link's count of faults rose.
     pub(crate) fault: bool,
-    // whether memory was refused
+    // Whether memory was refused: to a call on the link, to the room, or here.
     pub(crate) memory: bool,
 }
 
@@ -74,7 +80,8 @@ impl Account {
     pub(crate) fn send<K: Link>(&mut self, alloc: Global, link: &mut K, outs: &[Out])
         ensures blamed { IsBlamed self.old.fault self.new.fault
             (K.faults link.old) (K.faults link.new) }
-        ensures sent { Tells (Delivers outs.now self.old self.new) (K.told link.old) (K.told link.new) }
+        ensures sent { Tells (Delivers outs.now self.old self.new)
+            (K.told link.old) (K.told link.new) }
     {
         match self.sent.send_all(alloc, link, outs) {
             Ok(()) => {}
@@ -86,7 +93,8 @@ impl Account {
     pub(crate) fn reply<K: Link>(&mut self, alloc: Global, link: &mut K, outs: Mem<Vec<Out>>)
         ensures blamed { IsBlamed self.old.fault self.new.fault
             (K.faults link.old) (K.faults link.new) }
-        ensures replied { Tells (Replies outs self.old self.new) (K.told link.old) (K.told link.new) }
+        ensures replied { Tells (Replies outs self.old self.new)
+            (K.told link.old) (K.told link.new) }
     {
         match outs {
             Ok(outs) => self.send(alloc, link, &outs),
@@ -99,7 +107,8 @@ impl Account {
         ensures blamed { IsBlamed self.old.fault self.new.fault
             (K.faults link.old) (K.faults link.new) }
         ensures wire { self.new.wire ≡ self.old.wire }
-        ensures closed { Tells (Closes reason self.old self.new) (K.told link.old) (K.told link.new) }
+        ensures closed { Tells (Closes reason self.old self.new)
+            (K.told link.old) (K.told link.new) }
     {
         match self.sent.close(link, reason) {
             Ok(()) => {}

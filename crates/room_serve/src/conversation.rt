@@ -54,7 +54,8 @@ impl<'a, R: Wait, G: Gate> Door<'a, R, G> {
             (K.faults link.old) (K.faults link.new) }
         ensures talk { Tells (Converses conversation.old conversation.new)
             (K.told link.old) (K.told link.new) }
-        ensures whole { Tells (Leaves conversation.new.account) (K.told link.old) (K.told link.new) }
+        ensures whole { Tells (Leaves conversation.new.account)
+            (K.told link.old) (K.told link.new) }
     {
         'turns: for _ in self.rt.forever() {
             if !self.turn(link, conversation) {
@@ -162,7 +163,8 @@ impl<'a, R: Wait, G: Gate> Door<'a, R, G> {
         ensures session { conversation.new.pass.session ≡ conversation.old.pass.session }
         ensures assembler { conversation.new.assembler ≡ conversation.old.assembler }
         ensures account { conversation.new.account ≡ conversation.old.account }
-        ensures asked { IsAsked (said message.now) result conversation.old.pass conversation.new.pass }
+        ensures asked { IsAsked (said message.now) result
+            conversation.old.pass conversation.new.pass }
     {
         self.room.handle(self.rt, &mut conversation.pass, message)
     }

@@ -23,7 +23,8 @@ pub(crate) fn wait_for_join<R: Wait, K: Link>(
     requires new { account.old ≡ nothing }
     ensures open { IfSome result (λ join. IsOpen account.new) }
     ensures there { IfSome result (λ join. join.room < rooms) }
-    ensures blamed { IsBlamed account.old.fault account.new.fault (K.faults link.old) (K.faults link.new) }
+    ensures blamed { IsBlamed account.old.fault account.new.fault
+        (K.faults link.old) (K.faults link.new) }
     ensures joins { Tells (Joins rooms result account.new) (K.told link.old) (K.told link.new) }
 {
     'idles: for _ in rt.forever() {
@@ -51,8 +52,10 @@ fn join<K: Link>(
     requires new { account.old ≡ nothing }
     ensures open { IfSome result (λ join. IsOpen account.new) }
     ensures there { IfSome result (λ join. join.room < rooms) }
-    ensures blamed { IsBlamed account.old.fault account.new.fault (K.faults link.old) (K.faults link.new) }
-    ensures names { Tells (Names rooms bytes.now result account.new) (K.told link.old) (K.told link.new) }
+    ensures blamed { IsBlamed account.old.fault account.new.fault
+        (K.faults link.old) (K.faults link.new) }
+    ensures names { Tells (Names rooms bytes.now result account.new)
+        (K.told link.old) (K.told link.new) }
 {
     account.count();
     match Join::read(alloc, bytes, rooms) {

@@ -67,7 +67,8 @@ impl<'a, R: Wait, G: Gate> Door<'a, R, G> {
         ensures gone { IfSome result.gone (λ gone. room_of_gone gone ≡ id_of self.now.room.now) }
         ensures session { result.session ≡ session_of result.gone }
         ensures none { result.gone ≡ None → result.memory ≡ true }
-        ensures faults { IsBlamed account.fault result.fault (K.faults link.old) (K.faults link.new) }
+        ensures faults { IsBlamed account.fault result.fault
+            (K.faults link.old) (K.faults link.new) }
         ensures visits { Tells (Visits self.now.room.now join.readonly account result)
             (K.told link.old) (K.told link.new) }
     {
@@ -87,7 +88,8 @@ impl<'a, R: Wait, G: Gate> Door<'a, R, G> {
         ensures gone { IfSome result.gone (λ gone. room_of_gone gone ≡ id_of self.now.room.now) }
         ensures session { result.session ≡ session_of result.gone }
         ensures some { IsSome result.gone }
-        ensures faults { IsBlamed account.fault result.fault (K.faults link.old) (K.faults link.new) }
+        ensures faults { IsBlamed account.fault result.fault
+            (K.faults link.old) (K.faults link.new) }
         ensures visits { Tells (Visits self.now.room.now join.readonly account result)
             (K.told link.old) (K.told link.new) }
     {

@@ -42,7 +42,8 @@ where
     requires numbered { vec_len workers.old < 2 ^ 32 }
     ensures kept { vec_len workers.new ≡ vec_len workers.old }
     ensures tallied { IfOk result (λ tallies. AreTallied A.Link.faults A.Link.told
-        (ServesIn rooms.now) (IsReport rooms.now) A.faults A.told workers.old.items workers.new.items tallies.items) }
+        (ServesIn rooms.now) (IsReport rooms.now) A.faults A.told
+        workers.old.items workers.new.items tallies.items) }
 {
     let mut tallies = Vec::with_capacity(alloc, workers.len())?;
     let mut stations = Vec::with_capacity(alloc, workers.len())?;
@@ -99,8 +100,10 @@ where
     requires few { length rooms.now < 2 ^ 32 }
     requires numbered { length stations.old < 2 ^ 32 }
     ensures count { length stations.new ≡ length stations.old }
-    ensures worked { (place : ℕ) (before after : Station A) → slice_get stations.old place ≡ Some before
-        → slice_get stations.new place ≡ Some after → IsWorked A.Link.faults A.Link.told A.faults A.told rooms.now before after }
+    ensures worked { (place : ℕ) (before after : Station A)
+        → slice_get stations.old place ≡ Some before
+        → slice_get stations.new place ≡ Some after
+        → IsWorked A.Link.faults A.Link.told A.faults A.told rooms.now before after }
 {
     let threads = stations.len();
     if threads == 0 {
@@ -134,7 +137,8 @@ fn serve_worker<R: Wait, A: Accept, G: Gate>(
 ) -> Mem<Tally>
     requires few { length rooms.now < 2 ^ 32 }
     ensures shift { IfOk result (λ tally. IsShift A.Link.faults A.Link.told
-        (ServesIn rooms.now) (IsReport rooms.now) A.faults A.told (shift_of worker.old worker.new tally)) }
+        (ServesIn rooms.now) (IsReport rooms.now) A.faults A.told
+        (shift_of worker.old worker.new tally)) }
 {
     let mut reports = Vec::new(alloc);
     'links: for _ in rt.forever() {
@@ -203,7 +207,8 @@ fn call_from_the_end<A>(
     requires workers { (workers.old.items ≡ []) × (vec_len stations ≤ vec_capacity workers.old) }
     requires tallies { (tallies.old.items ≡ []) × (vec_len stations ≤ vec_capacity tallies.old) }
     ensures workers { workers.new.items ≡ map worker_of (reverse stations.items) }
-    ensures tallies { OnOk result (map Ok tallies.new.items ≡ map tally_of (reverse stations.items)) }
+    ensures tallies { OnOk result (map Ok tallies.new.items
+        ≡ map tally_of (reverse stations.items)) }
 {
     let mut refused = false;
     'stations: while !stations.is_empty() {

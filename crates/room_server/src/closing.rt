@@ -20,8 +20,10 @@ pub(crate) struct Gathered {
 pub(crate) fn gather(alloc: Global, rooms: usize, tallies: Vec<Tally>) -> Mem<Gathered>
     requires below { All (IsBelow rooms) (reports_of tallies.items) }
     ensures count { IfOk result (λ gathered. vec_len gathered.gones ≡ rooms) }
-    ensures gones { IfOk result (λ gathered. AreGathered (reports_of tallies.items) gathered.gones.items) }
-    ensures tallies { IfOk result (λ gathered. AllZip IsEmptied tallies.items gathered.tallies.items) }
+    ensures gones { IfOk result (λ gathered.
+        AreGathered (reports_of tallies.items) gathered.gones.items) }
+    ensures tallies { IfOk result (λ gathered.
+        AllZip IsEmptied tallies.items gathered.tallies.items) }
 {
     let mut gones = nobody(alloc, rooms)?;
     let mut emptied = Vec::with_capacity(alloc, tallies.len())?;

@@ -47,7 +47,8 @@ where
     requires numbered { vec_len workers.old < 2 ^ 32 }
     // On 0, 5 and 7 the rooms were served by the workers, and closed. On 0 and 7 the lines are written, on 5 a front of
     // them. A worker failed on 7, and none did on 0; 5 comes only if the sink had a fault in this call.
-    ensures outcome { IsOutcome A.Link.faults A.Link.told A.faults A.told rooms workers.old.items workers.new.items
+    ensures outcome { IsOutcome A.Link.faults A.Link.told A.faults A.told rooms
+        workers.old.items workers.new.items
         (K.held sink.old) (K.held sink.new) (K.faults sink.old) (K.faults sink.new) result }
     ensures kept { vec_len workers.new ≡ vec_len workers.old }
 {
@@ -80,7 +81,8 @@ where
     A::Link: Send,
     requires numbered { vec_len workers.old < 2 ^ 32 }
     ensures kept { vec_len workers.new ≡ vec_len workers.old }
-    ensures hosted { IfOk result (λ hosted. AreHosted A.Link.faults A.Link.told A.faults A.told rooms
+    ensures hosted { IfOk result (λ hosted.
+        AreHosted A.Link.faults A.Link.told A.faults A.told rooms
         workers.old.items workers.new.items hosted.tallies.items hosted.closed.items) }
     ensures lines { IfOk result (λ hosted. flat_map (λ line. line.items) hosted.lines.items
         ≡ outcome_text hosted.tallies.items hosted.closed.items) }
@@ -104,7 +106,8 @@ fn finish<K: Sink>(sink: &mut K, hosted: Hosted) -> Served
     ensures tallies { result.tallies ≡ hosted.tallies }
     ensures closed { result.closed ≡ hosted.closed }
     ensures known { (result.status ≡ 0) ⊎ (result.status ≡ 5) ⊎ (result.status ≡ 7) }
-    ensures written { IsWritten (K.held sink.old) (K.held sink.new) (K.faults sink.old) (K.faults sink.new) result }
+    ensures written { IsWritten (K.held sink.old) (K.held sink.new)
+        (K.faults sink.old) (K.faults sink.new) result }
 {
     let Hosted {
         tallies,

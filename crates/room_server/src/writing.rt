@@ -8,8 +8,10 @@ use room_link::writing::write_all;
 
 // Writes lines one after the other, each by writes of its own.
 pub(crate) fn write_each<K: Sink>(sink: &mut K, lines: &[Vec<u8>]) -> Result<(), Failed>
-    ensures ok { OnOk result (Extends (K.held sink.old) (K.held sink.new) (flat_map (λ line. line.items) lines.now)) }
-    ensures err { OnErr result ((front rest : List ℕ) × (flat_map (λ line. line.items) lines.now ≡ front ++ rest)
+    ensures ok { OnOk result (Extends (K.held sink.old) (K.held sink.new)
+        (flat_map (λ line. line.items) lines.now)) }
+    ensures err { OnErr result ((front rest : List ℕ)
+        × (flat_map (λ line. line.items) lines.now ≡ front ++ rest)
         × Extends (K.held sink.old) (K.held sink.new) front) }
     ensures failed { OnErr result (K.faults sink.old < K.faults sink.new) }
 {

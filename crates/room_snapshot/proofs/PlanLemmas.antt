@@ -8,7 +8,7 @@ use Rattle.rooms_val.specs.View.{data_of, pairs_view}
 use Rattle.rooms_val.specs.declared.val.Val.{Val}
 use Rattle.migrate_seq.specs.declared.fault.PlanFault.{PlanFault}
 use Rattle.migrate_seq.specs.declared.fault.PlanFault.TheVariants as plan_fault
-use Rattle.migrate_seq.specs.declared.migration.Sequence.{Sequence}
+use Rattle.migrate_steps.specs.declared.migration.Sequence.{Sequence}
 use Rattle.migrate_seq.specs.declared.place.Place.{Place}
 use Rattle.migrate_seq.specs.Plans.{migrations_at, plan_answer}
 use Rattle.migrate_seq.specs.Versions.{Versions}

@@ -15,9 +15,9 @@ use Rattle.rooms_val.specs.Maps.{order, AreRising, value_at, with_key, seen}
 use Rattle.rooms_val.specs.View.{data_of}
 use Rattle.rooms_val.specs.declared.val.Val.{Val}
 use Rattle.rooms_val.proofs.MapsLemmas.{at-with_key, rising-with_key, put_last, by_tie}
-use Rattle.migrate_seq.specs.declared.migration.Migration.{Migration}
-use Rattle.migrate_seq.specs.Records.{raised_along, raised_map}
-use Rattle.migrate_seq.proofs.RecordLemmas.{each_alone}
+use Rattle.migrate_steps.specs.declared.migration.Migration.{Migration}
+use Rattle.migrate_steps.specs.Records.{raised_along, raised_map}
+use Rattle.migrate_steps.proofs.RecordLemmas.{each_alone}
 use Rattle.room_snapshot.specs.Ids.{id_in, is_of, has_id, HaveIds, with_record, by_id}
 use Rattle.room_snapshot.specs.Raised.{all_at, AreRaised}
 use Rattle.room_snapshot.specs.Saved.{Documents, documents_view, records_of}

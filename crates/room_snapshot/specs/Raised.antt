@@ -4,11 +4,11 @@ use Rattle.std.specs.Prelude as std
 use Rattle.std.specs.Result.{result_map_both}
 use Rattle.rooms_val.specs.Data.{Pairs}
 use Rattle.migrate_seq.specs.declared.fault.PlanFault.{PlanFault}
-use Rattle.migrate_seq.specs.declared.migration.Migration.{Migration}
-use Rattle.migrate_seq.specs.declared.migration.Sequence.{Sequence}
+use Rattle.migrate_steps.specs.declared.migration.Migration.{Migration}
+use Rattle.migrate_steps.specs.declared.migration.Sequence.{Sequence}
 use Rattle.migrate_seq.specs.declared.place.Place.{Place}
 use Rattle.migrate_seq.specs.Plans.{migrations_at, plan_answer}
-use Rattle.migrate_seq.specs.Records.{raised_along, raised_map}
+use Rattle.migrate_steps.specs.Records.{raised_along, raised_map}
 use Rattle.migrate_seq.specs.Versions.{Versions}
 use Rattle.room_snapshot.specs.Ids.{by_id}
 use Rattle.room_snapshot.specs.Saved.{Documents, SavedTree, records_of}

@@ -3,7 +3,7 @@
 //! Contracts see a `SavedRoom` of `room_model` as a `SavedTree` (`saved_tree`): its two clocks, its
 //! records with a clock each and its tombstones with a clock each, in order. What a line is is said
 //! in the direction of printing: each saved room with the versions of its schema has one value, by
-//! `line_val`. The crate stands on `rooms_val`, `migrate_seq`, `schema_core` and `room_model`, and
+//! `line_val`. The crate stands on `rooms_val`, `migrate_steps`, `migrate_seq`, `schema_core` and `room_model`, and
 //! on `thiserror` for the text of its faults.
 #![tactic(auto)]
 

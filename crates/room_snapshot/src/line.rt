@@ -1,6 +1,6 @@
 //! The fields of a line, both ways.
 ghost use Rattle.std.specs.Prelude.{◌≡◌, IfOk, IfErr};
-ghost use Rattle.rooms_val.specs.Maps.{AreRising, with_key};
+ghost use Rattle.rooms_val.specs.Maps.{AreRising};
 ghost use Rattle.rooms_val.specs.View.{data_of, pairs_view};
 ghost use Rattle.migrate_seq.specs.Versions.{Versions, schema_of};
 ghost use Rattle.room_snapshot.specs.Lines.{line_fields};
@@ -34,19 +34,11 @@ pub(crate) fn line_fields(alloc: Global, saved: &SavedRoom, schema: &Serialized)
     let documents = Val::List(documents_val(alloc, &saved.documents)?);
     let tombs = Val::Map(tombs_val(alloc, &saved.tombstones)?);
     let fields = Fields::new(alloc);
-    let fields = with(alloc, fields, CLOCK_KEY, Val::Int(saved.clock))?;
-    let fields = with(alloc, fields, DOCUMENTS_KEY, documents)?;
-    let fields = with(alloc, fields, SCHEMA_KEY, schema.val(alloc)?)?;
-    let fields = with(alloc, fields, START_KEY, Val::Int(saved.start))?;
-    with(alloc, fields, TOMBS_KEY, tombs)
-}
-
-// The map with a further field.
-fn with(alloc: Global, mut fields: Fields, key: &str, val: Val) -> Mem<Fields>
-    ensures { IfOk result (λ made. made ≡ with_key fields key.now (data_of val)) }
-{
-    drop(fields.put(Text::of(alloc, key)?, val)?);
-    Ok(fields)
+    let fields = fields.with(alloc, CLOCK_KEY, Val::Int(saved.clock))?;
+    let fields = fields.with(alloc, DOCUMENTS_KEY, documents)?;
+    let fields = fields.with(alloc, SCHEMA_KEY, schema.val(alloc)?)?;
+    let fields = fields.with(alloc, START_KEY, Val::Int(saved.start))?;
+    fields.with(alloc, TOMBS_KEY, tombs)
 }
 
 /// The saved room with the versions of its schema that has these fields.

@@ -4,7 +4,7 @@ ghost use Rattle.rooms_val.specs.Answers.{Gives};
 ghost use Rattle.rooms_val.specs.Maps.{AreRising, with_key};
 ghost use Rattle.rooms_val.specs.View.{data_of, pairs_view};
 ghost use Rattle.migrate_seq.specs.Plans.{migrations_at, plan_answer};
-ghost use Rattle.migrate_seq.specs.Records.{raised_map};
+ghost use Rattle.migrate_steps.specs.Records.{raised_map};
 ghost use Rattle.migrate_seq.specs.SequencesOf.{sequences_of};
 ghost use Rattle.migrate_seq.specs.Shown.{places_in};
 ghost use Rattle.migrate_seq.specs.declared.fault.PlanFault.TheVariants as plan_fault;

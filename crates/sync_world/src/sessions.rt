@@ -123,9 +123,9 @@ impl Live {
         let Some(out) = self.room.drain(alloc, id, steps)? else {
             return Ok(Err(StepFault::NothingThere));
         };
-        let line = out_line(session, out.copy(alloc)?);
+        let lines = sent_lines(alloc, trace, session, &out)?;
         self.queues.give(session, out)?;
-        Ok(Ok(traced(alloc, trace, line)?))
+        Ok(Ok(lines))
     }
 
     // A client is given the first that is in flight to its session, also if that was lost.
@@ -235,6 +235,24 @@ fn traced(alloc: Global, trace: bool, line: OutLine) -> Mem<Vec<OutLine>>
         return one_line(alloc, line);
     }
     Ok(Vec::new(alloc))
+}
+
+// The line of a trace of what a session is given, if messages are traced.
+fn sent_lines(alloc: Global, trace: bool, session: u64, out: &Out) -> Mem<Vec<OutLine>>
+    ensures { IfOk result (λ lines. lines.items ≡ trace_line trace (out_line session out.now)) }
+{
+    if trace {
+        return sent_line(alloc, session, out);
+    }
+    Ok(Vec::new(alloc))
+}
+
+// That line, with a copy of what is given.
+fn sent_line(alloc: Global, session: u64, out: &Out) -> Mem<Vec<OutLine>>
+    ensures { IfOk result (λ lines. lines.items ≡ out_line session out.now ∷ []) }
+{
+    let line = out_line(session, out.copy(alloc)?);
+    one_line(alloc, line)
 }
 
 // One line.

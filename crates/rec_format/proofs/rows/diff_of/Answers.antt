@@ -1,6 +1,7 @@
 use Rattle.std.proofs.Common.{◌≡◌, sym, ◌∙◌}
 use Rattle.rooms_val.specs.View.{data_of}
-use Rattle.rec_format.proofs.DiffLemmas.{diff_is, diff_isnt}
+use Rattle.wire_msgs.proofs.PartLemmas.{diff_is}
+use Rattle.rec_format.proofs.DiffLemmas.{diff_isnt}
 use Rattle.rec_format.proofs.rows.diff_of.Goals as goal
 
 pub returns-in-Ok-clause-found : goal.returns-in-Ok-clause-found

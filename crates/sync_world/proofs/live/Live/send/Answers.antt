@@ -1,6 +1,5 @@
-use Rattle.std.proofs.Common.{◌≡◌, ◌∙◌, ap, sym, refl, subst, Some}
+use Rattle.std.proofs.Common.{◌≡◌, sym, refl, subst, Some}
 use Rattle.room_model.specs.Rooms as model
-use Rattle.room_model.specs.Worlds.{trace_line, out_line}
 use Rattle.room_model.specs.Schemas.{WorldSchemas}
 use Rattle.side_effects.specs.declared.fault.EditFault.{EditFault}
 use Rattle.sync_room.specs.Standing as room_of
@@ -29,7 +28,6 @@ returns-clause-step g c schemas world keeps =
     let drains = subst (λ (s : WorldSchemas EditFault). room_of.Drains world.room c.in-Some.id.number (model.next_for s.room world.room c.in-Some.id.number) c.in_ok-out.field-0 c.drain.new.self) (sym keeps.fits.decided)
     (c.in_ok-out.ensures.step world.room keeps.fits.room) in
     let so = subst (λ n. room_of.Drains world.room n (model.next_for schemas.room world.room n) c.in_ok-out.field-0 c.drain.new.self) found.0 drains in
-    let prints = c.in_ok-traced.ensures ∙ ap (trace_line c.args.trace) (c.out_line-line.ensures ∙ ap (out_line c.args.session) c.in_ok-copy.ensures) in
-    send_done schemas world c.args.self.now keeps c.args.session here.0 there c.args.trace out c.in_ok-traced.field-0 prints _
+    send_done schemas world c.args.self.now keeps c.args.session here.0 there c.args.trace out c.in_ok-lines.lines c.in_ok-lines.ensures _
     (subst (λ o. room_of.Drains world.room c.args.session (model.next_for schemas.room world.room c.args.session) o c.drain.new.self) c.in-Some-2.is so)
     c.in_ok-out.ensures.schema refl c.in_ok-give.ensures.sent c.in_ok-give.ensures.given
