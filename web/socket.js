@@ -22,7 +22,7 @@ const OPTIONS = {
 /**
  * Opens a board: a client in a room of a server. The promise is that of `Board.reconnect`. A server that
  * isn't there is tried again and again.
- * @param {string} url the server's address, as `ws://127.0.0.1:9000/`
+ * @param {string} url the server's address, as `ws://127.0.0.1:9001/`
  * @param {number} room the number of the room
  * @param {object} [options] any of these:
  *     `readonly`, whether the room is to look at no edit of this client, `false` without it;
