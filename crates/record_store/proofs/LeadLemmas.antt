@@ -14,8 +14,9 @@ use Rattle.tl_rules.specs.Meaning.{tl_meaning}
 use Rattle.tl_rules.specs.declared.key.TlKey.{TlKey}
 use Rattle.tl_rules.specs.declared.value.TlValue.{TlValue}
 use Rattle.record_store.specs.Lists.{Board, atoms_of, AreTurned, LeadsIn, Leads}
-use Rattle.record_store.specs.Turns.{AreInTurn, written, written_under, written_all}
-use Rattle.record_store.proofs.TurnLemmas.{one_in_turn, dropped_grows, diffs-followed, later_one, note_last, turned_noted, turned_joined}
+use Rattle.signal_txn.specs.Turns.{AreInTurn}
+use Rattle.record_store.specs.Tells.{written, written_under, written_all}
+use Rattle.signal_txn.proofs.TurnLemmas.{one_in_turn, dropped_grows, diffs-followed, later_one, note_last, turned_noted, turned_joined}
 
 pub written-append : (m : Pairs) (xs ys : List (TlKey × TlValue)) → written_all m (xs ++ ys) ≡ written_all (written_all m xs) ys
 written-append m [] ys = refl

@@ -9,4 +9,3 @@ pub mod TreeLemmas
 pub mod WriteLemmas
 pub mod TellLemmas
 pub mod ReplaceLemmas
-pub mod TurnLemmas

@@ -13,7 +13,7 @@ use Rattle.tl_rules.specs.Meaning.{tl_meaning}
 use Rattle.tl_rules.specs.declared.key.TlKey.{TlKey}
 use Rattle.tl_rules.specs.declared.value.TlValue.{TlValue}
 use Rattle.record_store.specs.Lists.{Board, IsNewest, ChangesOnly}
-use Rattle.record_store.proofs.TurnLemmas.{note_last}
+use Rattle.signal_txn.proofs.TurnLemmas.{note_last}
 
 -- what is kept of some writes is among them
 in_kept : (n : ℕ) (ws : List (Write TlKey TlValue)) (w : Write TlKey TlValue) → Contains (drop (length ws - n) ws) w → Contains ws w

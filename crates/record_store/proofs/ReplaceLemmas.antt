@@ -18,7 +18,7 @@ use Rattle.tl_rules.specs.declared.value.TlValue.{TlValue}
 use Rattle.record_store.specs.Kept.{IsBoard, AreBoards, IsStore}
 use Rattle.record_store.specs.Lists.{Board, atoms_of, begun_of, AreTurned, IsFreshIn, MeetsNone, ChangesOnly}
 use Rattle.record_store.specs.Seen.{Keys, Seen, AreKeys, records, begun, epoch, records_under}
-use Rattle.record_store.specs.Turns.{TellsOn, written_all}
+use Rattle.record_store.specs.Tells.{TellsOn, written_all}
 use Rattle.record_store.proofs.CallLemmas.{AreLevelled}
 use Rattle.record_store.proofs.FrameLemmas.{epoch_after}
 use Rattle.record_store.proofs.RecordLemmas.{keys_added, records_added, board_added, boards_added}

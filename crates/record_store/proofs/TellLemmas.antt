@@ -15,9 +15,10 @@ use Rattle.tl_rules.specs.declared.key.TlKey.{TlKey}
 use Rattle.tl_rules.specs.declared.value.TlValue.{TlValue}
 use Rattle.record_store.specs.Lists.{Board, atoms_of, records_of, AreTurned, LeadsIn, Leads, AreTold, ChangesOnly}
 use Rattle.record_store.specs.Seen.{Keys, records_under}
-use Rattle.record_store.specs.Turns.{AreInTurn, written_all}
+use Rattle.signal_txn.specs.Turns.{AreInTurn}
+use Rattle.record_store.specs.Tells.{written_all}
 use Rattle.record_store.proofs.LeadLemmas.{written-append}
-use Rattle.record_store.proofs.TurnLemmas.{dropped_grows, diffs-followed, turned_opened, turned_committed, turned_aborted}
+use Rattle.signal_txn.proofs.TurnLemmas.{dropped_grows, diffs-followed, turned_opened, turned_committed, turned_aborted}
 use Rattle.record_store.proofs.FrameLemmas.{epoch_after}
 
 -- the atoms are those of the graph

@@ -15,7 +15,7 @@ use Rattle.record_store.specs.Kept.{IsBoard}
 use Rattle.record_store.specs.Lists.{Board, atoms_of, records_of, AreLists, IsListOf, IsRelisted, IsWritten, AreNoRecords, Leads, IsTold, AreTold, ChangesOnly}
 use Rattle.signal_values.specs.Seen.{top}
 use Rattle.record_store.specs.Seen.{Keys, AreKeys}
-use Rattle.record_store.specs.Turns.{written_under}
+use Rattle.record_store.specs.Tells.{written_under}
 use Rattle.record_store.proofs.FrameLemmas.{in_turn, wider}
 use Rattle.record_store.proofs.ListLemmas.{no_record, records_unmoved}
 use Rattle.record_store.proofs.RecordLemmas.{by_same, same_records, records_written, board_written}

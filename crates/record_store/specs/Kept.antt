@@ -14,7 +14,7 @@ use Rattle.tl_rules.specs.declared.key.TlKey.{TlKey}
 use Rattle.tl_rules.specs.declared.key.TlKey.TheVariants as key
 use Rattle.tl_rules.specs.declared.value.TlValue.{TlValue}
 use Rattle.record_store.specs.Seen.{Keys, Seen, AreKeys, records_under, atoms, watches, epoch, ring}
-use Rattle.record_store.specs.Turns.{AreInTurn}
+use Rattle.signal_txn.specs.Turns.{AreInTurn}
 
 -- the atoms are what the plain queries say of the records that they have, which are sound
 pub record IsBoard (keys : Keys) (atoms : TlKey → TlValue) : Type 0 where

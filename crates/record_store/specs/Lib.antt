@@ -1,7 +1,7 @@
 pub mod Seen
 pub mod Tree
 pub mod Plain
-pub mod Turns
+pub mod Tells
 pub mod Kept
 pub mod Lists
 pub mod Calls

@@ -23,7 +23,8 @@ use Rattle.tl_rules.specs.declared.value.TlValue.TheVariants as value
 use Rattle.tl_rules.specs.declared.listing.Listing.{Listing}
 use Rattle.tl_rules.specs.Listings.{owner_of, index_of, listed, is_before, key_of}
 use Rattle.record_store.specs.Seen.{Keys, records_under}
-use Rattle.record_store.specs.Turns.{AreInTurn, written_under, written_all}
+use Rattle.signal_txn.specs.Turns.{AreInTurn}
+use Rattle.record_store.specs.Tells.{written_under, written_all}
 
 -- transactions over a board
 abbrev pub Board : Type 0

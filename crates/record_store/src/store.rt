@@ -13,7 +13,7 @@ ghost use Rattle.signal_values.specs.Seen.{IsFreshIn, top};
 ghost use Rattle.record_store.specs.Kept.{IsLevelled};
 ghost use Rattle.record_store.specs.Lists.{begun_of, atoms_of, IsWritten};
 ghost use Rattle.record_store.specs.Seen.{records, begun, watches, epoch, ring};
-ghost use Rattle.record_store.specs.Turns.{JoinsOnly, TellsFrom, TellsOn};
+ghost use Rattle.record_store.specs.Tells.{JoinsOnly, TellsFrom, TellsOn};
 ghost use Rattle.record_store.specs.Calls.{AreDue, AreNews, ArePlainNews, AreTold, AreAsked, KeepsApart, KeepsBoard};
 
 use crate::keys::Keys;

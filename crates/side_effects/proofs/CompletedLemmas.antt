@@ -11,6 +11,7 @@ use Rattle.field_ops.specs.RecordOps.{RecordOpTree, remove, RecordOps}
 use Rattle.schema_core.specs.Tree.{SchemaTree}
 use Rattle.schema_core.specs.Admits.{is_document}
 use Rattle.doc_model.specs.Documents.{fold_raw}
+use Rattle.side_effects.specs.declared.completion.TheConstants.{MOST_OPERATIONS}
 use Rattle.side_effects.specs.ReachingLaws.{IsIn, IsClosed}
 use Rattle.shape_tree.specs.Records.{is_shape, is_binding}
 use Rattle.side_effects.specs.Records.{parent_of, from_of, to_of, holders_of, has}
@@ -151,7 +152,7 @@ module _ (s : SchemaTree) (m : Pairs) (wanted diff : RecordOps) (is : completed 
 
   pub came : Came
   came =
-      let few = cond_ok (nat_lt 8192 (length wanted)) (and_then (indexed s m wanted) (λ d. unless (not_whole m wanted (with_removes m d)) (if_few (with_removes m d)))) diff is in
+      let few = cond_ok (nat_lt MOST_OPERATIONS (length wanted)) (and_then (indexed s m wanted) (λ d. unless (not_whole m wanted (with_removes m d)) (if_few (with_removes m d)))) diff is in
       let found = and_then_ok (indexed s m wanted) (λ d. unless (not_whole m wanted (with_removes m d)) (if_few (with_removes m d))) diff few in
       let whole = unless_ok (not_whole m wanted (with_removes m found.0)) (if_few (with_removes m found.0)) diff found.2 in
       let fits = unless_ok (unfit s m wanted) (all_placed s m (placed m wanted) (unplaced m wanted)) found.0 found.1 in
@@ -163,7 +164,7 @@ module _ (s : SchemaTree) (m : Pairs) (wanted diff : RecordOps) (is : completed 
         there = scope.1;
         valid = named.1;
         placed_all = fits.1;
-        removed_all = same_ok (with_removes m found.0) diff (cond_ok (nat_lt 8192 (length (with_removes m found.0))) (Ok (with_removes m found.0)) diff whole.1);
+        removed_all = same_ok (with_removes m found.0) diff (cond_ok (nat_lt MOST_OPERATIONS (length (with_removes m found.0))) (Ok (with_removes m found.0)) diff whole.1);
       }
 
   -- its ids rise

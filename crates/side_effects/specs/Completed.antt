@@ -11,6 +11,7 @@ use Rattle.doc_model.specs.Documents.{fold_raw}
 use Rattle.side_effects.specs.Placed.{placed, unplaced, all_placed, and_then}
 use Rattle.side_effects.specs.Removed.{with_removes}
 use Rattle.side_effects.specs.Whole.{last_page, no_parent, under_itself, no_end}
+use Rattle.side_effects.specs.declared.completion.TheConstants.{MOST_OPERATIONS}
 use Rattle.side_effects.specs.declared.fault.EditFault.{EditFault}
 use Rattle.side_effects.specs.declared.fault.EditFault.TheVariants.{TooMany, WrongScope, NoRecord, Invalid}
 use Rattle.side_effects.specs.declared.rules.Rule.{Rule}
@@ -68,7 +69,7 @@ not_whole m wanted diff = or_else (last_page m (fold_raw m diff)) (unhung (fold_
 
 -- the diff, or that it has too many operations
 abbrev pub if_few : RecordOps → Result RecordOps EditFault
-if_few diff = if nat_lt 8192 (length diff) then Err TooMany else Ok diff
+if_few diff = if nat_lt MOST_OPERATIONS (length diff) then Err TooMany else Ok diff
 
 -- why an id is named wrongly: it isn't of document scope, or else there is no record to patch or remove
 abbrev pub misnamed : SchemaTree → Pairs → RecordOps → Option EditFault
@@ -85,7 +86,7 @@ indexed s m wanted = unless (unfit s m wanted) (all_placed s m (placed m wanted)
 -- the wanted diff with indices, and with removes of what goes, or the first rule that refuses it
 abbrev pub completed : SchemaTree → Pairs → RecordOps → Result RecordOps EditFault
 completed s m wanted =
-    if nat_lt 8192 (length wanted) then Err TooMany
+    if nat_lt MOST_OPERATIONS (length wanted) then Err TooMany
     else and_then (indexed s m wanted) (λ diff. let all = with_removes m diff in unless (not_whole m wanted all) (if_few all))
 
 -- nothing, or what is refused

@@ -13,7 +13,7 @@ use Rattle.field_index.specs.Index.{with_record, indexed}
 use Rattle.field_index.specs.declared.index.FieldIndex.{FieldIndex}
 use Rattle.field_index.proofs.IndexLemmas.{indexed-set_at}
 use Rattle.store_query.specs.Asking.{IsIndexOf}
-use Rattle.record_store.specs.Turns.{written_under, written, written_all}
+use Rattle.record_store.specs.Tells.{written_under, written, written_all}
 use Rattle.store_query.specs.Refreshing.{KeepsField}
 use Rattle.store_query.proofs.AskingLemmas.{pairs_found}
 

@@ -4,7 +4,7 @@ use Rattle.rooms_val.specs.Data.{Pairs}
 use Rattle.rooms_val.specs.Maps.{AreRising}
 use Rattle.signal_txn.specs.Since.{IsUnknown}
 use Rattle.record_store.specs.Seen.{Seen, records, epoch}
-use Rattle.record_store.specs.Turns.{TellsFrom}
+use Rattle.record_store.specs.Tells.{TellsFrom}
 use Rattle.field_index.specs.declared.index.FieldIndex.{FieldIndex}
 use Rattle.store_query.specs.Asking.{IsIndexOf}
 

@@ -5,7 +5,7 @@ ghost use Rattle.rooms_val.specs.Maps.{AreRising};
 ghost use Rattle.record_store.specs.Seen.{records, begun, epoch};
 ghost use Rattle.signal_values.specs.Seen.{top};
 ghost use Rattle.store_query.specs.Asking.{IsIndexOf};
-ghost use Rattle.record_store.specs.Turns.{written, written_all};
+ghost use Rattle.record_store.specs.Tells.{written, written_all};
 ghost use Rattle.store_query.specs.Refreshing.{CanRefresh, IsRefreshed, IsUnrefreshed, KeepsField};
 
 use crate::asking::tell_rising;

@@ -2,7 +2,7 @@ use Rattle.std.proofs.Common.{◌≡◌, sym, subst, ◌∙◌}
 use Rattle.tl_rules.specs.Answers.{record_in}
 use Rattle.field_index.specs.Index.{with_record}
 use Rattle.store_query.specs.Asking.{IsIndexOf}
-use Rattle.record_store.specs.Turns.{written_under}
+use Rattle.record_store.specs.Tells.{written_under}
 use Rattle.store_query.proofs.RefreshingLemmas.{set_follows, through}
 use Rattle.store_query.proofs.refreshing.follow.Goals as goal
 

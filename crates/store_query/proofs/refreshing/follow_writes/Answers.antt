@@ -1,7 +1,7 @@
 use Rattle.std.proofs.Common.{◌≡◌, ap, sym, subst, ◌∙◌, take, arith}
 use Rattle.std.proofs.lemmas.List.Sums.{fold_more}
 use Rattle.store_query.specs.Asking.{IsIndexOf}
-use Rattle.record_store.specs.Turns.{written, written_all}
+use Rattle.record_store.specs.Tells.{written, written_all}
 use Rattle.store_query.proofs.RefreshingLemmas.{keeps_through, rising-written_all}
 use Rattle.store_query.proofs.refreshing.follow_writes.Goals as goal
 

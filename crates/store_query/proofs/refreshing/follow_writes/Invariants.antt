@@ -2,7 +2,7 @@ use Rattle.std.proofs.Common.{take}
 use Rattle.rooms_val.specs.Data.{Pairs}
 use Rattle.rooms_val.specs.Maps.{AreRising}
 use Rattle.store_query.specs.Asking.{IsIndexOf}
-use Rattle.record_store.specs.Turns.{written_all}
+use Rattle.record_store.specs.Tells.{written_all}
 use Rattle.store_query.specs.Refreshing.{KeepsField}
 use Rattle.store_query.proofs.refreshing.follow_writes.Given as goal
 

@@ -1,9 +1,10 @@
 use Rattle.std.proofs.Common.{◌≡◌, ◌<◌, [], ap, sym, subst, ◌∙◌}
 use Rattle.signal_values.specs.Seen.{top}
 use Rattle.record_store.specs.Seen.{Seen, records, begun, epoch, ring}
-use Rattle.record_store.specs.Turns.{TellsFrom, AreInTurn, written_all}
+use Rattle.signal_txn.specs.Turns.{AreInTurn}
+use Rattle.record_store.specs.Tells.{TellsFrom, written_all}
 use Rattle.record_store.proofs.CallLemmas.{none_open}
-use Rattle.record_store.proofs.TurnLemmas.{none_later}
+use Rattle.signal_txn.proofs.TurnLemmas.{none_later}
 use Rattle.record_store.proofs.store.RecordStore.epoch.Goals as goal
 
 pub returns-clause-told : goal.returns-clause-told

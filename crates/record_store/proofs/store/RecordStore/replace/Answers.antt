@@ -8,7 +8,7 @@ use Rattle.record_store.specs.Lists.{Board, atoms_of, begun_of, IsWritten, Chang
 use Rattle.record_store.specs.Seen.{Seen, records, begun, epoch, records_under}
 use Rattle.record_store.proofs.FrameLemmas.{on_err, epoch_after}
 use Rattle.signal_values.specs.Seen.{top}
-use Rattle.record_store.specs.Turns.{JoinsOnly, TellsOn}
+use Rattle.record_store.specs.Tells.{JoinsOnly, TellsOn}
 use Rattle.record_store.proofs.CallLemmas.{none_open}
 use Rattle.record_store.proofs.NewestLemmas.{joins_these}
 use Rattle.record_store.proofs.TellLemmas.{atoms_same, commit_turned, abort_turned, tells_on}

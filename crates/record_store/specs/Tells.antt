@@ -1,33 +1,15 @@
--- In which order writes stand, and what those since an epoch tell.
-use Rattle.std.specs.Prelude.{◌≡◌, ◌⊎◌, ℕ, ◌<◌, ◌≤◌, List, [], ◌∷◌, length, Contains}
+-- What the writes since an epoch tell.
+use Rattle.std.specs.Prelude.{◌≡◌, ◌⊎◌, ℕ, ◌≤◌, List, Contains}
 use Rattle.std.specs.List.{fold}
 use Rattle.rooms_val.specs.Data.{Pairs}
 use Rattle.rooms_val.specs.Maps.{set_at}
 use Rattle.signal_txn.specs.declared.write.Write.{Write}
-use Rattle.signal_txn.specs.LastWrites.{LastWrites}
-use Rattle.signal_txn.specs.Level.{Level}
 use Rattle.signal_txn.specs.Since.{IsUnknown, diffs_after}
 use Rattle.tl_rules.specs.Answers.{record_in}
 use Rattle.tl_rules.specs.declared.key.TlKey.{TlKey}
 use Rattle.tl_rules.specs.declared.key.TlKey.TheVariants as key
 use Rattle.tl_rules.specs.declared.value.TlValue.{TlValue}
 use Rattle.record_store.specs.Seen.{Seen, records, epoch, ring}
-
--- the epochs of some writes rise, from above one epoch up to another
-abbrev pub Rise : {K V : Type 0} → ℕ → List (Write K V) → ℕ → Type 0
-Rise low [] high = low ≤ high
-Rise low (write ∷ writes) high = (low < write.epoch) × Rise write.epoch writes high
-
--- the last of the writes from above one epoch up to another: any that fell out came before, and then as many are kept as may be
-pub record IsInTurn {K V : Type 0} (low high : ℕ) (last : LastWrites K V) : Type 0 where
-  pub above : Rise low last.writes high
-  pub fallen : Rise last.dropped last.writes high
-  pub full : 0 < last.dropped → 256 ≤ length last.writes
-
--- the writes of each open transaction, the newest first, came after those of the one around it, and after what is committed
-abbrev pub AreInTurn : {K V : Type 0} → List (Level K V) → LastWrites K V → ℕ → Type 0
-AreInTurn [] ring high = IsInTurn 0 high ring
-AreInTurn (level ∷ around) ring high = (low : ℕ) × IsInTurn low high level.last × AreInTurn around ring low
 
 -- the records after a write of an atom, which changes them where it is that of a record
 abbrev pub written_under : Pairs → TlKey → TlValue → Pairs
