@@ -1,10 +1,11 @@
 -- What a pruning leaves.
-use Rattle.std.proofs.Common.{◌≡◌, ◌⊎◌, ℕ, suc, ◌-◌, ◌≤◌, ℤ, Bool, true, false, ◌&&◌, ◌||◌, T, cond, List, [], ◌∷◌, length, get_or, filter, Contains, refl, sym, ap, subst, ◌∙◌, inl, inr, arith, lt-ltb}
+use Rattle.std.proofs.Common.{◌≡◌, ◌⊎◌, ℕ, ◌-◌, ◌≤◌, ℤ, Bool, true, false, ◌&&◌, ◌||◌, T, cond, List, [], ◌∷◌, length, get_or, filter, Contains, refl, sym, ap, subst, ◌∙◌, inl, inr, lt-ltb}
 use Rattle.std.specs.Prelude.{nat_lt}
 use Rattle.std.specs.FinMap.Entries.{below_all}
 use Rattle.std.proofs.lemmas.Bool.{false≢true}
 use Rattle.links_core.specs.Lists.{list_at}
 use Rattle.links_core.proofs.Members.{here, there, none_in_nil, contains_cases}
+use Rattle.rooms_val.proofs.Truths.{and_holds}
 use Rattle.rooms_val.specs.Maps.{order}
 use Rattle.rooms_val.proofs.MapsLemmas.{first, second}
 use Rattle.change_list.specs.declared.entries.Change.{Change}
@@ -34,14 +35,6 @@ from_filter p x (y ∷ xs) q = at (from_filter p x xs) (p y) refl q
     ]
     at deeper false h r = let d = deeper r in (there x y xs d.0, d.1)
 
-pub length_filter : {X : Type 0} (p : X → Bool) (xs : List X) → length (filter p xs) ≤ length xs
-length_filter p [] = omega arith
-length_filter {X} p (x ∷ xs) = at (p x) (length_filter p xs)
-  where
-    at : (b : Bool) → length (filter p xs) ≤ length xs → length (cond b (x ∷ filter p xs) (filter p xs)) ≤ suc (length xs)
-    at true le = omega (arith, le)
-    at false le = omega (arith, le)
-
 pub map_filter : (entries : List Change) (p : Change → Bool) (xs : List ℕ) → changes_at entries (filter (λ n. p (entry_at entries n)) xs) ≡ filter p (changes_at entries xs)
 map_filter entries p [] = refl
 map_filter entries p (x ∷ xs) = at (p (entry_at entries x)) (map_filter entries p xs)
@@ -50,16 +43,12 @@ map_filter entries p (x ∷ xs) = at (p (entry_at entries x)) (map_filter entrie
     at true rest = ap (λ cs. entry_at entries x ∷ cs) rest
     at false rest = rest
 
-both : (a b : Bool) → T a → T b → T (a && b)
-both true b h k = k
-both false b h k = h
-
 below_filter : (entries : List Change) (p : ℕ → Bool) (key : List ℕ) (xs : List ℕ) → T (below_all order key (keyed entries xs)) → T (below_all order key (keyed entries (filter p xs)))
 below_filter entries p key [] h = h
 below_filter entries p key (x ∷ xs) h = at (p x) (below_filter entries p key xs (second _ _ h))
   where
     at : (b : Bool) → T (below_all order key (keyed entries (filter p xs))) → T (below_all order key (keyed entries (cond b (x ∷ filter p xs) (filter p xs))))
-    at true rest = both _ _ (first _ _ h) rest
+    at true rest = and_holds _ _ (first _ _ h) rest
     at false rest = rest
 
 pub rising_order : (entries : List Change) (p : ℕ → Bool) (xs : List ℕ) → HasRisingIds entries xs → HasRisingIds entries (filter p xs)
@@ -67,7 +56,7 @@ rising_order entries p [] h = h
 rising_order entries p (x ∷ xs) h = at (p x) (rising_order entries p xs (second _ _ h))
   where
     at : (b : Bool) → HasRisingIds entries (filter p xs) → HasRisingIds entries (cond b (x ∷ filter p xs) (filter p xs))
-    at true rest = both _ _ (below_filter entries p (entry_at entries x).id xs (first _ _ h)) rest
+    at true rest = and_holds _ _ (below_filter entries p (entry_at entries x).id xs (first _ _ h)) rest
     at false rest = rest
 
 stays_where : (live low after : Bool) → low ≡ true → (live ≡ true) ⊎ (after ≡ true) → (low && (live || after)) ≡ true

@@ -1,5 +1,5 @@
 -- What the loops over a list of nodes keep.
-use Rattle.std.proofs.Common.{◌≡◌, ℕ, ◌+◌, ◌<◌, ◌≤◌, ℤ, Bool, true, false, cond, List, [], ◌∷◌, ◌++◌, length, get_or, reverse, filter, take, drop, Option, Some, None, Result, Ok, Err, OnErr, Contains, refl, sym, ap, subst, ◌∙◌, arith}
+use Rattle.std.proofs.Common.{◌≡◌, ℕ, ◌+◌, ◌<◌, ◌≤◌, ℤ, Bool, true, false, cond, List, [], ◌∷◌, ◌++◌, length, get_or, reverse, filter, take, drop, Option, Some, None, Contains, refl, sym, ap, subst, ◌∙◌, arith}
 use Rattle.std.proofs.lemmas.List.{map-append, length-map, length-append, length-reverse, reverse-append, append_assoc, append-nil, drop_more, take-append-drop}
 use Rattle.std.proofs.lemmas.Option.{same_Some, none-some}
 use Rattle.std.proofs.lemmas.List.Elements.{filter-append}
@@ -111,7 +111,3 @@ step_forward lists l i node answer low here next =
     let xs : List ℕ = list_at lists l in
     let same : node ≡ get_or xs i 0 = same_Some node (get_or xs i 0) (here ∙ first_there xs i low) in
     next.linked l (take i xs) (drop (i + 1) xs) (sym (take-append-drop i xs) ∙ ap (λ ws. take i xs ++ ws) (drop_more xs i 0 low ∙ ap (λ w. w ∷ drop (i + 1) xs) (sym same)))
-
-pub on_err : {T E : Type 0} (r : Result T E) {P : Type 0} → P → OnErr r P
-on_err (Ok x) p = tt
-on_err (Err e) p = p

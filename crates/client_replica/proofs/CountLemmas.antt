@@ -2,6 +2,7 @@
 use Rattle.std.proofs.Common.{◌≡◌, ◌<◌, ◌+◌, ℕ, zero, suc, List, [], ◌∷◌, ◌++◌, drop, Bool, true, false, cond, ◌||◌, slice_get, Some, zero-add, refl, sym, ap, subst, ◌∙◌, arith}
 use Rattle.std.specs.Prelude.{is_some, IsTrue, ◌↔◌}
 use Rattle.std.proofs.lemmas.List.Sums.{sum_by-cons, sum_by-append}
+use Rattle.rooms_val.proofs.Truths.{or_false_left, or_false_right}
 use Rattle.rooms_val.specs.Maps.{value_at}
 use Rattle.field_ops.specs.RecordOps.{RecordOps}
 use Rattle.room_model.specs.Replicas.{Work, edit, presence}
@@ -30,20 +31,12 @@ pub times_left : (works : List Work) (k : ℕ) (id : List ℕ) → times (diffs_
 times_left works k id =
     subst (λ n. times (diffs_in (drop k works)) id ≡ once (pushed_diff (slice_get works k)) id + times (diffs_in (drop n works)) id) (let next : suc k ≡ k + 1 = omega arith in next) (times_after works k id)
 
-first_of : (a b : Bool) → a || b ≡ false → a ≡ false
-first_of true b is = absurd cc
-first_of false b is = refl
-
-second_of : (a b : Bool) → a || b ≡ false → b ≡ false
-second_of true b is = absurd cc
-second_of false b is = is
-
 named_none : (diffs : List RecordOps) (id : List ℕ) → is_named diffs id ≡ false → times diffs id ≡ 0
 named_none [] id none = refl
 named_none (diff ∷ diffs) id none =
     let counted = sum_by-cons (λ d. once d id) diff diffs in
-    let here = ap {B = ℕ} (λ b. cond b 1 0) (first_of (is_some (value_at diff id)) (is_named diffs id) none) in
-    let later = named_none diffs id (second_of (is_some (value_at diff id)) (is_named diffs id) none) in
+    let here = ap {B = ℕ} (λ b. cond b 1 0) (or_false_left (is_some (value_at diff id)) (is_named diffs id) none) in
+    let later = named_none diffs id (or_false_right (is_some (value_at diff id)) (is_named diffs id) none) in
     omega (arith, counted, here, later)
 
 named_some : (diffs : List RecordOps) (id : List ℕ) → is_named diffs id ≡ true → 0 < times diffs id

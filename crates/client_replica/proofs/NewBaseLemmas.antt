@@ -1,9 +1,10 @@
 -- A base that goes on beside a store and a stash: what changed of it, and what is shown then.
 use Rattle.std.proofs.Common.{◌≡◌, ◌≤◌, ◌+◌, ℕ, List, [], ◌∷◌, ◌++◌, length, drop, Result, Ok, Err, Bool, true, false, cond, ◌||◌, Option, Some, None, slice_get, refl, sym, ap, subst, ◌∙◌, arith}
-use Rattle.std.specs.Prelude.{is_some, unwrap_or, IfOk, OnOk}
+use Rattle.std.specs.Prelude.{is_some, unwrap_or, IfOk}
 use Rattle.std.specs.FinMap.Entries as entries
 use Rattle.std.proofs.lemmas.Cmp.{nat_list_cmp_total}
 use Rattle.std.proofs.lemmas.List.{drop-drop}
+use Rattle.rooms_val.proofs.Truths.{or_left}
 use Rattle.rooms_val.specs.Data.{Data, Pairs}
 use Rattle.std.specs.Ordering.{is_eq}
 use Rattle.rooms_val.specs.Maps.{order, AreRising, value_at, set_at, with_key, ties}
@@ -26,30 +27,21 @@ use Rattle.client_replica.specs.Works.{works_in, pushed_diff, event_diff, ended_
 use Rattle.client_replica.specs.Stashes.{under, kept}
 use Rattle.client_replica.specs.NewBases.{laid, IsLaid, AreStepped, HasIdsOf, IsOf, IsAhead}
 use Rattle.client_replica.proofs.PartLemmas.{part-step}
-use Rattle.client_replica.proofs.WorkLemmas.{first_left, or_first as or_true}
-use Rattle.client_replica.proofs.StashLemmas.{or_flip, or_assoc, exact-kept, some_or}
-
-never : (P : Type 0) → false ≡ true → P
-never P is = absurd cc
+use Rattle.client_replica.proofs.WorkLemmas.{first_left}
+use Rattle.client_replica.proofs.StashLemmas.{or_flip, exact-kept, some_or, few-cond}
+use Rattle.client_replica.proofs.OwnLemmas.{never}
+use Rattle.room_model.proofs.LookUpLemmas.{or_assoc}
 
 -- an id that joins a map
 exact-put : {X : Type 0} (es : List (List ℕ × X)) (k : List ℕ) (v : X) (q : List ℕ) → is_some (value_at (with_key es k v) q) ≡ is_some (value_at es q) || ties q k
 exact-put es k v q = ap is_some (at-with_key es k q v) ∙ some_or (ties q k) v (value_at es q) ∙ or_flip (ties q k) (is_some (value_at es q))
-
-pub on_ok : {T E A B : Type 0} (r : Result T E) → (A → B) → OnOk r A → OnOk r B
-on_ok (Ok x) f told = f told
-on_ok (Err e) f told = tt
 
 pub if_ok : {T E : Type 0} {A B : T → Type 0} (r : Result T E) → ((x : T) → A x → B x) → IfOk r A → IfOk r B
 if_ok (Ok x) f told = f x told
 if_ok (Err e) f told = tt
 
 pub more_put : {X : Type 0} (es : List (List ℕ × X)) (k : List ℕ) (v : X) → HasIdsOf es (with_key es k v)
-more_put es k v q is = exact-put es k v q ∙ or_true (is_some (value_at es q)) (ties q k) is
-
-few-cond : (b : Bool) (n m : ℕ) → m ≡ cond b n (n + 1) → m ≤ n + 1
-few-cond true n m is = omega (arith, is)
-few-cond false n m is = omega (arith, is)
+more_put es k v q is = exact-put es k v q ∙ or_left (is_some (value_at es q)) (ties q k) is
 
 pub few_put : {X : Type 0} (es : List (List ℕ × X)) (k : List ℕ) (v : X) → AreRising es → length (with_key es k v) ≤ length es + 1
 few_put es k v rising = few-cond (is_some (value_at es k)) (length es) (length (with_key es k v)) (entries.length-put order nat_list_cmp_total k v es rising)

@@ -8,6 +8,7 @@ use Rattle.std.proofs.lemmas.List.{drop-drop}
 use Rattle.room_model.specs.Replicas.{Work}
 use Rattle.sync_msgs.specs.declared.data_event.DataEvent.{DataEvent}
 use Rattle.std.specs.Ordering.{is_eq}
+use Rattle.rooms_val.proofs.Truths.{or_false_left, or_false_right}
 use Rattle.rooms_val.specs.Data.{Data, Pairs}
 use Rattle.rooms_val.specs.Maps.{order, AreRising, value_at, with_key, without_key, ties}
 use Rattle.rooms_val.proofs.MapsLemmas.{by_tie, order_itself, at-with_key, at-without_key, rising-without_key, none_later}
@@ -24,14 +25,6 @@ use Rattle.client_replica.proofs.StashLemmas.{unwrap_there, some_is}
 
 pub never : (P : Type 0) → false ≡ true → P
 never P is = absurd cc
-
-or_left : (a b : Bool) → a || b ≡ false → a ≡ false
-or_left true b is = absurd cc
-or_left false b is = refl
-
-pub or_right : (a b : Bool) → a || b ≡ false → b ≡ false
-or_right true b is = absurd cc
-or_right false b is = is
 
 module _ (admits : List ℕ → Data → Bool) where
   pub replay-append : (m : Pairs) (diffs more : List RecordOps) → replay admits m (diffs ++ more) ≡ replay admits (replay admits m diffs) more
@@ -52,7 +45,7 @@ module _ (admits : List ℕ → Data → Bool) where
   pub unnamed : (m : Pairs) (diffs : List RecordOps) (q : List ℕ) → is_named diffs q ≡ false → value_at (replay admits m diffs) q ≡ value_at m q
   unnamed m [] q none = refl
   unnamed m (diff ∷ diffs) q none =
-      unnamed (step admits m diff) diffs q (or_right (is_some (value_at diff q)) (is_named diffs q) none) ∙ unnamed-step m diff q (or_left (is_some (value_at diff q)) (is_named diffs q) none)
+      unnamed (step admits m diff) diffs q (or_false_right (is_some (value_at diff q)) (is_named diffs q) none) ∙ unnamed-step m diff q (or_false_left (is_some (value_at diff q)) (is_named diffs q) none)
 
 -- a rising map has no more ids than diffs have operations, if they name each
 fewer : {X : Type 0} (es : List (List ℕ × X)) (k : List ℕ) (b : Bool) → cond b 1 0 + length (without_key es k) ≡ length es → length es ≤ length (without_key es k) + 1
@@ -145,7 +138,7 @@ module _ (base m shown : Pairs) (before left : List RecordOps) (stash changes ne
               | true ↦ λ some. settled_base (is_named left q) (value_at changes q) (under stash m q) (value_at shown q) (value_at base q) some (lies q) (free q)
               | false ↦ λ none. still_under (value_at stash q) (value_at shown q) (value_at m q) (value_at base q)
                   (sym (ap (λ o. unwrap_or o (under stash m q)) (some_is (value_at changes q) none)) ∙ lies q)
-                  (λ gone. free q (or_right (is_named before q) (is_named left q) (sym (held q) ∙ gone)))
+                  (λ gone. free q (or_false_right (is_named before q) (is_named left q) (sym (held q) ∙ gone)))
             ] refl;
         exact = exact;
         rising = rising;

@@ -26,7 +26,7 @@ use Rattle.client_replica.specs.Standing.{IsReplica, with_work, alone}
 use Rattle.client_replica.proofs.StashLemmas.{written_is, some_is, unwrap_there}
 use Rattle.client_replica.proofs.PartLemmas.{part-step, rising-replay, part-part}
 use Rattle.client_replica.proofs.WorkLemmas.{works-append, diffs-append, works-unsent, diffs-edits, edits_left, named-more, ops-more}
-use Rattle.client_replica.proofs.OwnLemmas.{or_right}
+use Rattle.rooms_val.proofs.Truths.{or_false_right}
 
 pub no_diffs : (own : Option Data) (diffs : List RecordOps) → diffs ++ diffs_in (map presence (option_to_list own)) ≡ diffs
 no_diffs None diffs = append-nil diffs
@@ -87,7 +87,7 @@ module _ (s : SchemaTree) where
       → is_some (value_at held id) ≡ b → under held (step admits m diff) id ≡ under held m id
   still held m diff id a true rises exact is = unwrap_there (value_at held id) is (value_at (step admits m diff) id) (value_at m id)
   still held m diff id a false rises exact is =
-      ap (unwrap_or (value_at held id)) (at-step admits diff m id rises ∙ ap (λ o. record_after admits id o (value_at m id)) (some_is (value_at diff id) (or_right a (is_some (value_at diff id)) (sym exact ∙ is))))
+      ap (unwrap_or (value_at held id)) (at-step admits diff m id rises ∙ ap (λ o. record_after admits id o (value_at m id)) (some_is (value_at diff id) (or_false_right a (is_some (value_at diff id)) (sym exact ∙ is))))
 
   -- a further edit: what the stash came to hold lies under what the diff made
   pub stashed_edit : (base : Pairs) (diffs : List RecordOps) (records after : Pairs) (stash held : Slots) (diff : RecordOps) → AreRising diff → IsStash base diffs records stash

@@ -1,5 +1,5 @@
 -- What a stash holds as edits are replayed, and that it brings back the base.
-use Rattle.std.proofs.Common.{◌≡◌, ◌≤◌, ◌+◌, ℕ, List, [], ◌∷◌, ◌++◌, length, map, take, drop, get_or, Result, Ok, Err, Bool, true, false, cond, ◌||◌, Option, Some, None, option_map, refl, sym, ap, ◌∙◌, arith}
+use Rattle.std.proofs.Common.{◌≡◌, ◌≤◌, ◌+◌, ℕ, List, [], ◌∷◌, ◌++◌, length, map, take, drop, get_or, Result, Ok, Err, Bool, true, false, cond, ◌||◌, Option, Some, None, refl, sym, ap, ◌∙◌, arith}
 use Rattle.std.specs.Prelude.{is_some, unwrap_or, OnOk, OnErr}
 use Rattle.std.proofs.lemmas.Grind.{take_at_read}
 use Rattle.std.proofs.lemmas.List.{drop_all}
@@ -14,6 +14,8 @@ use Rattle.doc_model.specs.Inverses.{record_after}
 use Rattle.doc_model.proofs.InverseLemmas.{at-step_at}
 use Rattle.doc_store.specs.Slots.{Slots}
 use Rattle.client_replica.specs.Stashes.{under, written_over, kept, without_all}
+use Rattle.room_model.proofs.LookUpLemmas.{or_assoc}
+use Rattle.edit_names.proofs.NamesLemmas.{some-map}
 
 -- what stands under an id once a stash is written over the records
 pub at-written_over : (stash : Slots) (m : Pairs) (q : List ℕ) → AreRising stash → value_at (written_over stash m) q ≡ under stash m q
@@ -55,10 +57,6 @@ or_flip true false = refl
 or_flip false true = refl
 or_flip false false = refl
 
-pub or_assoc : (a b d : Bool) → (a || b) || d ≡ a || (b || d)
-or_assoc true b d = refl
-or_assoc false b d = refl
-
 -- a kept id is held, and the others are as before
 pub exact-kept : (stash : Slots) (k : List ℕ) (r : Option Data) (q : List ℕ) → is_some (value_at (kept stash k r) q) ≡ is_some (value_at stash q) || ties q k
 exact-kept stash k r q =
@@ -71,7 +69,7 @@ exact-kept stash k r q =
 pub rising-kept : (stash : Slots) (k : List ℕ) (r : Option Data) → AreRising stash → AreRising (kept stash k r)
 rising-kept stash k r rising = elim (is_some (value_at stash k)) as (λ b. AreRising (cond b stash (with_key stash k r))) [ true ↦ rising | false ↦ rising-with_key stash k r rising ]
 
-few-cond : (b : Bool) (n m : ℕ) → m ≡ cond b n (n + 1) → m ≤ n + 1
+pub few-cond : (b : Bool) (n m : ℕ) → m ≡ cond b n (n + 1) → m ≤ n + 1
 few-cond true n m is = omega arith
 few-cond false n m is = omega arith
 
@@ -87,10 +85,6 @@ exact-next stash x left m q =
     ap (λ b. b || is_some (value_at left q)) (exact-kept stash x.0 (value_at m x.0) q)
     ∙ or_assoc (is_some (value_at stash q)) (ties q x.0) (is_some (value_at left q))
     ∙ ap (λ b. is_some (value_at stash q) || b) (sym (some_or (ties q x.0) x.1 (value_at left q)))
-
-some-map : {X Y : Type 0} (f : X → Y) (o : Option X) → is_some (option_map f o) ≡ is_some o
-some-map f None = refl
-some-map f (Some x) = refl
 
 -- a diff names the ids of its operations
 pub named-seen : {X Y : Type 0} (f : X → Y) (es : List (List ℕ × X)) (q : List ℕ) → is_some (value_at (seen f es) q) ≡ is_some (value_at es q)

@@ -3,6 +3,7 @@ use Rattle.std.proofs.Common.{◌≡◌, ◌≤◌, ℕ, zero, suc, List, [], �
 use Rattle.std.specs.Prelude.{is_some, unwrap_or}
 use Rattle.std.proofs.lemmas.List.{take_all, drop_all}
 use Rattle.std.proofs.lemmas.List.Sums.{sum_by-cons}
+use Rattle.rooms_val.proofs.Truths.{and_right, and_left, or_false_right}
 use Rattle.rooms_val.specs.Data.{Data, Pairs}
 use Rattle.rooms_val.specs.Maps.{AreRising, value_at}
 use Rattle.field_ops.specs.RecordOps.{RecordOps}
@@ -15,7 +16,6 @@ use Rattle.room_model.specs.Schemas.{records_with}
 use Rattle.room_model.specs.Replicas.{Work, Pending}
 use Rattle.room_model.specs.Taking.{Replica, after_events, after_hydration}
 use Rattle.room_model.proofs.LookUpLemmas.{rising-filter}
-use Rattle.room_model.proofs.ActingLemmas.{left as and_first}
 use Rattle.sync_msgs.specs.declared.data_event.Action.TheVariants.{Commit, Discard, Rebase}
 use Rattle.sync_msgs.specs.declared.data_event.DataEvent.{DataEvent}
 use Rattle.sync_msgs.specs.declared.data_event.DataEvent.TheVariants.{Patch, PushResult}
@@ -32,11 +32,7 @@ use Rattle.client_replica.proofs.PartLemmas.{part-step, part-part, rising-replay
 use Rattle.client_replica.proofs.StashLemmas.{some_is, written_is}
 use Rattle.client_replica.proofs.WorkLemmas.{works-drop, diffs-append, named-append, ops-append, replay-first, replay-one}
 use Rattle.client_replica.proofs.NewBaseLemmas.{ahead_diff, replay_same}
-use Rattle.client_replica.proofs.OwnLemmas.{never, or_right, replay-append, unnamed, settled_stash}
-
-and_second : (a b : Bool) → a && b ≡ true → b ≡ true
-and_second true b is = is
-and_second false b is = never _ is
+use Rattle.client_replica.proofs.OwnLemmas.{never, replay-append, unnamed, settled_stash}
 
 take_and_drop : {X : Type 0} (n : ℕ) (xs : List X) → xs ≡ take n xs ++ drop n xs
 take_and_drop zero xs = refl
@@ -53,8 +49,8 @@ module _ (s : SchemaTree) where
   ops_document : (diff : RecordOps) → is_all_document (is_document s) diff ≡ true → ops_with (is_document s) diff ≡ diff
   ops_document [] all = refl
   ops_document (c ∷ diff) all =
-      let first = and_first (is_document s c.0) (is_all_document (is_document s) diff) all in
-      let rest = and_second (is_document s c.0) (is_all_document (is_document s) diff) all in
+      let first = and_left (is_document s c.0) (is_all_document (is_document s) diff) all in
+      let rest = and_right (is_document s c.0) (is_all_document (is_document s) diff) all in
       ap (λ b. cond b (c ∷ ops_with (is_document s) diff) (ops_with (is_document s) diff)) first ∙ ap (λ l. c ∷ l) (ops_document diff rest)
 
   document_after : (base : Pairs) (diff : RecordOps) → AreRising base → is_all_document (is_document s) diff ≡ true → document (step admits base diff) ≡ step admits (document base) diff
@@ -70,8 +66,8 @@ module _ (s : SchemaTree) where
   own_base (PushResult number clock Commit ∷ events) base [] rising own = own_base events base [] rising own ∙ ap (λ l. replay admits (document base) (diffs_in l)) (take_all (length events) [] (omega arith))
   own_base (PushResult number clock Commit ∷ events) base (item ∷ items) rising own =
       let diff = pushed_diff (Some item.work) in
-      let first = and_first (is_all_document (is_document s) diff) (are_own (is_document s) (works_in items) events) own in
-      let rest = and_second (is_all_document (is_document s) diff) (are_own (is_document s) (works_in items) events) own in
+      let first = and_left (is_all_document (is_document s) diff) (are_own (is_document s) (works_in items) events) own in
+      let rest = and_right (is_all_document (is_document s) diff) (are_own (is_document s) (works_in items) events) own in
       let works = take (length events) (works_in items) in
       own_base events (step admits base diff) items (rising-step admits diff base rising) rest
       ∙ ap (λ m. replay admits m (diffs_in works)) (document_after base diff rising first ∙ sym (replay-one admits (document base) item.work)) ∙ sym (replay-first admits (document base) item.work works)
@@ -81,7 +77,7 @@ module _ (s : SchemaTree) where
   own_ended [] works own = refl
   own_ended (Patch diff clock ∷ events) works own = never _ own
   own_ended (PushResult number clock action ∷ events) works own =
-      let rest = own_ended events (drop 1 works) (and_second (commits (is_document s) (slice_get works 0) (PushResult number clock action)) (are_own (is_document s) (drop 1 works) events) own) in
+      let rest = own_ended events (drop 1 works) (and_right (commits (is_document s) (slice_get works 0) (PushResult number clock action)) (are_own (is_document s) (drop 1 works) events) own) in
       let counted = sum_by-cons ended_by (PushResult number clock action) events in
       omega (arith, rest, counted)
 
@@ -114,8 +110,8 @@ module _ (s : SchemaTree) where
   no_presence : (diff : RecordOps) → is_all_document (is_document s) diff ≡ true → ops_with (is_presence s) diff ≡ []
   no_presence [] all = refl
   no_presence (c ∷ diff) all =
-      let first = and_first (is_document s c.0) (is_all_document (is_document s) diff) all in
-      let rest = and_second (is_document s c.0) (is_all_document (is_document s) diff) all in
+      let first = and_left (is_document s c.0) (is_all_document (is_document s) diff) all in
+      let rest = and_right (is_document s c.0) (is_all_document (is_document s) diff) all in
       ap (λ b. cond b (c ∷ ops_with (is_presence s) diff) (ops_with (is_presence s) diff)) (document_apart s c.0 first) ∙ no_presence diff rest
 
   own_after : (events : List DataEvent) (base : Pairs) (items : List Pending) → AreRising base → are_own (is_document s) (works_in items) events ≡ true → OwnAfter events base items
@@ -128,8 +124,8 @@ module _ (s : SchemaTree) where
       record { left = more.left ∙ drop_all (length events) [] (omega arith); presence = more.presence; rising = more.rising }
   own_after (PushResult number clock Commit ∷ events) base (item ∷ items) rising own =
       let diff = pushed_diff (Some item.work) in
-      let first = and_first (is_all_document (is_document s) diff) (are_own (is_document s) (works_in items) events) own in
-      let rest = and_second (is_all_document (is_document s) diff) (are_own (is_document s) (works_in items) events) own in
+      let first = and_left (is_all_document (is_document s) diff) (are_own (is_document s) (works_in items) events) own in
+      let rest = and_right (is_all_document (is_document s) diff) (are_own (is_document s) (works_in items) events) own in
       let more = own_after events (step admits base diff) items (rising-step admits diff base rising) rest in
       record {
         left = more.left;
@@ -169,7 +165,7 @@ module _ (s : SchemaTree) where
   names_within records works stash others replica n stands q none =
       let before = diffs_in (take n works) in
       let left = diffs_in (drop n works) in
-      or_right (is_named before q) (is_named left q) (sym (stands.stash_is.exact q ∙ ap (λ ds. is_named ds q) (parted_diffs works n) ∙ named-append before left q) ∙ none)
+      or_false_right (is_named before q) (is_named left q) (sym (stands.stash_is.exact q ∙ ap (λ ds. is_named ds q) (parted_diffs works n) ∙ named-append before left q) ∙ none)
 
   -- works that are ended have no more operations than all
   pub ops_taken : (works : List Work) (n : ℕ) → operations (diffs_in (take n works)) ≤ operations (diffs_in works)

@@ -3,6 +3,7 @@ use Rattle.std.proofs.Common.{◌≡◌, ◌≤◌, ◌+◌, ℕ, zero, suc, add
 use Rattle.std.specs.Prelude.{is_some, filter}
 use Rattle.std.proofs.lemmas.List.Sums.{sum_by-cons, sum_by-append}
 use Rattle.std.proofs.lemmas.List.Folds.{list_any-append}
+use Rattle.rooms_val.proofs.Truths.{or_left, or_right}
 use Rattle.rooms_val.specs.Data.{Data, Pairs}
 use Rattle.rooms_val.specs.Maps.{value_at}
 use Rattle.field_ops.specs.RecordOps.{RecordOps}
@@ -172,22 +173,14 @@ named-next (work ∷ works) (suc i) id =
     ∙ or_left_along one (is_named (diffs_in (take (suc i) works)) id) (is_named (diffs_in (take i works)) id) last (named-next works i id)
     ∙ ap (λ b. b || last) (sym (named-first work (take i works) id))
 
-pub or_first : (a b : Bool) → a ≡ true → a || b ≡ true
-or_first true b is = refl
-or_first false b is = absurd cc
-
-pub or_second : (a b : Bool) → b ≡ true → a || b ≡ true
-or_second true b is = refl
-or_second false b is = is
-
 -- what one work names is named
 pub named_there : (works : List Work) (i : ℕ) (id : List ℕ) → is_some (value_at (pushed_diff (slice_get works i)) id) ≡ true → is_named (diffs_in works) id ≡ true
 named_there [] zero id is = absurd cc
 named_there [] (suc i) id is = absurd cc
 named_there (work ∷ works) zero id is =
-    named-first work works id ∙ or_first (is_named (diffs_in (work ∷ [])) id) (is_named (diffs_in works) id) (named-one work id ∙ is)
+    named-first work works id ∙ or_left (is_named (diffs_in (work ∷ [])) id) (is_named (diffs_in works) id) (named-one work id ∙ is)
 named_there (work ∷ works) (suc i) id is =
-    named-first work works id ∙ or_second (is_named (diffs_in (work ∷ [])) id) (is_named (diffs_in works) id) (named_there works i id is)
+    named-first work works id ∙ or_right (is_named (diffs_in (work ∷ [])) id) (is_named (diffs_in works) id) (named_there works i id is)
 
 -- how many works events end
 pub ended-more : (events : List DataEvent) (event : DataEvent) → ended (events ++ event ∷ []) ≡ ended events + ended_by event

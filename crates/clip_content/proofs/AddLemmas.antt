@@ -10,7 +10,7 @@ use Rattle.std.proofs.lemmas.Bool.Decides.{nat_tests}
 use Rattle.std.proofs.lemmas.List.{append-nil}
 use Rattle.rooms_val.specs.Data.{Data, Pairs}
 use Rattle.rooms_val.specs.Maps.{order, ties, value_at, seen, keys_of, AreRising}
-use Rattle.rooms_val.proofs.MapsLemmas.{first, second, both, less, by_tie, flipped, order_itself, put_last, rising_on, rising-seen, at-seen, ties_flip}
+use Rattle.rooms_val.proofs.MapsLemmas.{first, second, less, by_tie, flipped, order_itself, put_last, rising_on, rising-seen, at-seen, ties_flip}
 use Rattle.field_ops.specs.Laws.{raw_after}
 use Rattle.field_ops.specs.RecordOps.{put, RecordOps}
 use Rattle.doc_model.specs.Documents.{fold_raw}
@@ -20,7 +20,7 @@ use Rattle.shape_tree.specs.Trees.{children}
 use Rattle.side_effects.specs.ReachingLaws.{IsIn}
 use Rattle.side_effects.specs.Records.{has}
 use Rattle.side_effects.proofs.FilterLemmas.{rising-filter, is_in-keys}
-use Rattle.side_effects.proofs.PlacingLemmas.{and_first as and_one}
+use Rattle.rooms_val.proofs.Truths.{and_left, and_holds}
 use Rattle.room_model.specs.Clips.{ClipTree, TargetTree}
 use Rattle.clip_content.specs.Copied.{is_one_of, is_copied, is_within, copied, first_missing, first_again, is_too_much, if_few, taken, shapes_under}
 use Rattle.clip_content.specs.Pasted.{new_id, new_shape, new_binding, new_ids, first_taken, put_each, puts, pasted_shape, pasted_binding, pasted_shapes, pasted_bindings, indices_of, tops}
@@ -73,19 +73,19 @@ module _ (type prefix : List ℕ) (m : Pairs) (few : length m < 10000) (h : List
   below_new : (k : List ℕ) → is_some (value_at m k) ≡ true → (es : Pairs) → T (below_all order k es) → T (below_all order (new_id type prefix m k) (map as_new es))
   below_new k there [] below = tt
   below_new k there (e ∷ es) below =
-      both _ _ (subst (λ o. T (is_lt o)) (sym (new_below type prefix m few k e.0 there (less (order k e.0) (first _ _ below)))) tt) (below_new k there es (second _ _ below))
+      and_holds _ _ (subst (λ o. T (is_lt o)) (sym (new_below type prefix m few k e.0 there (less (order k e.0) (first _ _ below)))) tt) (below_new k there es (second _ _ below))
 
   rising_new : (es : Pairs) → Each (IsAt m) es → AreRising es → AreRising (map as_new es)
   rising_new [] each rising = tt
-  rising_new (e ∷ es) each rising = both _ _ (below_new e.0 (ap is_some each.0) es (first _ _ rising)) (rising_new es each.1 (second _ _ rising))
+  rising_new (e ∷ es) each rising = and_holds _ _ (below_new e.0 (ap is_some each.0) es (first _ _ rising)) (rising_new es each.1 (second _ _ rising))
 
 below_both : (k : List ℕ) (xs ys : Pairs) → T (below_all order k xs) → T (below_all order k ys) → T (below_all order k (xs ++ ys))
 below_both k [] ys left right = right
-below_both k (x ∷ xs) ys left right = both _ _ (first _ _ left) (below_both k xs ys (second _ _ left) right)
+below_both k (x ∷ xs) ys left right = and_holds _ _ (first _ _ left) (below_both k xs ys (second _ _ left) right)
 
 rising_both : (xs ys : Pairs) → AreRising xs → AreRising ys → Each (λ e. T (below_all order e.0 ys)) xs → AreRising (xs ++ ys)
 rising_both [] ys left right lower = right
-rising_both (x ∷ xs) ys left right lower = both _ _ (below_both x.0 xs ys (first _ _ left) lower.0) (rising_both xs ys (second _ _ left) right lower.1)
+rising_both (x ∷ xs) ys left right lower = and_holds _ _ (below_both x.0 xs ys (first _ _ left) lower.0) (rising_both xs ys (second _ _ left) right lower.1)
 
 -- what a clip has that was taken
 pub record IsClip (source : Pairs) (clip : ClipTree) : Type 0 where
@@ -125,7 +125,7 @@ clip_is source ids clip rising is =
     subst (IsClip source) known.0 (record {
       rising_shapes = rising-filter (λ e. is_shape e.0 && is_copied source ids e.0) source rising;
       rising_bindings = rising-filter (λ e. is_binding e.0 && is_within made.shapes e.1) source rising;
-      shapes = each-weaker _ (λ e. is_shape e.0 ≡ true) (λ e is. and_one (is_shape e.0) (is_copied source ids e.0) is) made.shapes (each_passes (λ e. is_shape e.0 && is_copied source ids e.0) source);
+      shapes = each-weaker _ (λ e. is_shape e.0 ≡ true) (λ e is. and_left (is_shape e.0) (is_copied source ids e.0) is) made.shapes (each_passes (λ e. is_shape e.0 && is_copied source ids e.0) source);
       bound = each_passes (λ e. is_binding e.0 && is_within made.shapes e.1) source;
       none = no_empty (has made.shapes []) refl;
       few_shapes = few_enough (length made.shapes) few.0;

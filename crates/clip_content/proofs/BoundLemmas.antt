@@ -7,7 +7,7 @@ use Rattle.rooms_val.specs.Kinds.{as_map}
 use Rattle.rooms_val.specs.Maps.{ties}
 use Rattle.shape_tree.specs.Records.{is_binding}
 use Rattle.side_effects.specs.Records.{from_of, to_of, has}
-use Rattle.side_effects.proofs.PlacingLemmas.{and_first as and_one, and_second as and_two}
+use Rattle.rooms_val.proofs.Truths.{and_left, and_right}
 use Rattle.shape_tree.specs.Trees.{bound}
 use Rattle.room_model.specs.Clips.{ClipTree, TargetTree, is_prefix}
 use Rattle.clip_content.specs.Copied.{is_within}
@@ -36,8 +36,8 @@ module _ (clip : ClipTree) (target : TargetTree) (few : length clip.shapes < 100
 
   end_by : (e : List ℕ × Data) → is_within clip.shapes e.1 ≡ true → has_end (new_shape clip target id) (pasted_binding clip target e) ≡ has_end id e.1
   end_by e within =
-      let from_there = and_one (has clip.shapes (from_of e.1)) (has clip.shapes (to_of e.1)) within in
-      let to_there = and_two (has clip.shapes (from_of e.1)) (has clip.shapes (to_of e.1)) within in
+      let from_there = and_left (has clip.shapes (from_of e.1)) (has clip.shapes (to_of e.1)) within in
+      let to_there = and_right (has clip.shapes (from_of e.1)) (has clip.shapes (to_of e.1)) within in
       let named = with_field (codes "id") (text (new_binding clip target e.0)) e.1 in
       let begun = with_field (codes "fromId") (text (new_shape clip target (from_of e.1))) named in
       let named_map : IsMap named = map_kept (codes "id") (text (new_binding clip target e.0)) e.1 ∙ bound_map e.1 from_there in
@@ -55,8 +55,8 @@ module _ (clip : ClipTree) (target : TargetTree) (few : length clip.shapes < 100
       → (is_binding (new_binding clip target e.0) && has_end (new_shape clip target id) (pasted_binding clip target e)) ≡ (is_binding e.0 && has_end id e.1)
   bound_by e is =
       ap (λ b. b && has_end (new_shape clip target id) (pasted_binding clip target e)) (new_binding_id target.prefix clip.bindings e.0 prefix)
-      ∙ end_by e (and_two (is_binding e.0) (is_within clip.shapes e.1) is)
-      ∙ sym (ap (λ b. b && has_end id e.1) (and_one (is_binding e.0) (is_within clip.shapes e.1) is))
+      ∙ end_by e (and_right (is_binding e.0) (is_within clip.shapes e.1) is)
+      ∙ sym (ap (λ b. b && has_end id e.1) (and_left (is_binding e.0) (is_within clip.shapes e.1) is))
 
   ids_bound : (es : Pairs) → map (λ e. e.0) (map as_bound es) ≡ map (new_binding clip target) (map (λ e. e.0) es)
   ids_bound [] = refl

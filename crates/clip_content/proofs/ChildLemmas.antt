@@ -3,6 +3,7 @@ use Rattle.std.proofs.Common.{◌≡◌, ℕ, ◌<◌, Bool, true, false, ◌&&�
 use Rattle.std.specs.Prelude.{filter, is_some, not, codes, unwrap_or, option_map, option_to_list}
 use Rattle.std.specs.Ordering.{is_lt, ordering_then}
 use Rattle.std.proofs.lemmas.Bool.{and_from}
+use Rattle.rooms_val.proofs.Truths.{unnot_true, unnot_false, and_left, and_right}
 use Rattle.rooms_val.specs.Data.{Data, Pairs}
 use Rattle.rooms_val.specs.Kinds.{as_map, text_at}
 use Rattle.rooms_val.specs.Maps.{order, ties, value_at, AreRising}
@@ -19,7 +20,6 @@ use Rattle.clip_content.specs.Pasted.{new_shape, is_top, with_place, moved_by, p
 use Rattle.clip_content.proofs.CopyLemmas.{copied_closed}
 use Rattle.clip_content.proofs.FieldLemmas.{IsMap, map_kept, text_kept, no_field, placed_map, placed_parent, placed_index, moved_map}
 use Rattle.side_effects.proofs.FilterLemmas.{at-filter, kept_at}
-use Rattle.side_effects.proofs.PlacingLemmas.{and_first as and_one, and_second as and_two}
 use Rattle.clip_content.proofs.IdLemmas.{new_shape_id}
 use Rattle.clip_content.proofs.PlaceLemmas.{new_order}
 use Rattle.clip_content.proofs.TopLemmas.{Each, each-weaker, each-filter, each-in_order}
@@ -77,14 +77,6 @@ module _ {X : Type 0} (cmp : X → X → Ordering) (h : X → X) (Is : X → Typ
   in_order_under [] each = refl
   in_order_under (x ∷ xs) each = ap (inserted cmp (h x)) (in_order_under xs each.1) ∙ inserted_under x (in_order cmp xs) each.0 (each-in_order Is cmp xs each.1)
 
-not_true : (b : Bool) → not b ≡ true → b ≡ false
-not_true true is = sym is
-not_true false is = refl
-
-not_false : (b : Bool) → not b ≡ false → b ≡ true
-not_false true is = refl
-not_false false is = sym is
-
 -- two ids of which a map has one alone aren't the same
 pub apart : (m : Pairs) (a b : List ℕ) → has m a ≡ false → has m b ≡ true → ties a b ≡ false
 apart m a b isnt is = by_tie (λ t. t ≡ false) a b (λ same. absurd (let never : false ≡ true = sym isnt ∙ ap (has m) same ∙ is in (cc))) refl
@@ -135,8 +127,8 @@ module _ (clip : ClipTree) (target : TargetTree) where
     child_by none p there other e shape =
         ap (λ b. b && ties (parent_of (pasted_shape clip target indices e)) (new_shape clip target p)) (new_shape_id target.prefix clip.shapes e.0 prefix)
         ∙ (elim (is_top clip e.1) as (λ b. is_top clip e.1 ≡ b → ties (parent_of (cond b (pasted_top clip target (unwrap_or (text_at indices e.0) []) e.0 e.1) (pasted_inner clip target e.0 e.1))) (new_shape clip target p) ≡ ties (parent_of e.1) p) [
-          | true ↦ λ is. top_parent p other (unwrap_or (text_at indices e.0) []) e.0 e.1 ∙ sym (apart clip.shapes (parent_of e.1) p (not_true (has clip.shapes (parent_of e.1)) is) there)
-          | false ↦ λ is. let within = not_false (has clip.shapes (parent_of e.1)) is in
+          | true ↦ λ is. top_parent p other (unwrap_or (text_at indices e.0) []) e.0 e.1 ∙ sym (apart clip.shapes (parent_of e.1) p (unnot_true (has clip.shapes (parent_of e.1)) is) there)
+          | false ↦ λ is. let within = unnot_false (has clip.shapes (parent_of e.1)) is in
               ap (λ q. ties q (new_shape clip target p)) (placed_parent (new_shape clip target e.0) (new_shape clip target (parent_of e.1)) e.1 (inner_map none e.1 within))
               ∙ new_ties (parent_of e.1) p within there
         ]) refl
@@ -144,7 +136,7 @@ module _ (clip : ClipTree) (target : TargetTree) where
 
     index_by : (p : List ℕ) → has clip.shapes p ≡ true → (e : List ℕ × Data) → is_child p e ≡ true → sibling_of (as_pasted e) ≡ renamed (sibling_of e)
     index_by p there e is =
-        let under = ties_same (parent_of e.1) p (and_two (is_shape e.0) (ties (parent_of e.1) p) is) in
+        let under = ties_same (parent_of e.1) p (and_right (is_shape e.0) (ties (parent_of e.1) p) is) in
         let inner : is_top clip e.1 ≡ false = ap not (ap (has clip.shapes) under ∙ there) in
         let same : index_of (pasted_shape clip target indices e) ≡ index_of e.1 =
         ap (λ b. index_of (cond b (pasted_top clip target (unwrap_or (text_at indices e.0) []) e.0 e.1) (pasted_inner clip target e.0 e.1))) inner
@@ -194,19 +186,19 @@ module _ (m : Pairs) (ids : List (List ℕ)) (rising : AreRising m) where
   has_copied q is = (passes_test (λ e. is_shape e.0 && is_copied m ids e.0) m q rising is).2
 
   pub clip_is_shape : (q : List ℕ) → has (shapes_under m ids) q ≡ true → is_shape q ≡ true
-  clip_is_shape q is = and_one (is_shape q) (is_copied m ids q) (has_copied q is)
+  clip_is_shape q is = and_left (is_shape q) (is_copied m ids q) (has_copied q is)
 
   child_copied : (p : List ℕ) → is_copied m ids p ≡ true → (e : List ℕ × Data) → IsAt m e → is_child p e ≡ true → (is_shape e.0 && is_copied m ids e.0) ≡ true
   child_copied p copied e at is =
-      let shape = and_one (is_shape e.0) (ties (parent_of e.1) p) is in
+      let shape = and_left (is_shape e.0) (ties (parent_of e.1) p) is in
       let under : parents m e.0 ≡ p ∷ [] =
       ap (λ b. option_to_list (option_map parent_of (cond b (value_at m e.0) None))) shape
       ∙ ap (λ o. option_to_list (option_map parent_of o)) at
-      ∙ ap (λ q. q ∷ []) (ties_same (parent_of e.1) p (and_two (is_shape e.0) (ties (parent_of e.1) p) is)) in
+      ∙ ap (λ q. q ∷ []) (ties_same (parent_of e.1) p (and_right (is_shape e.0) (ties (parent_of e.1) p) is)) in
       and_from _ _ shape ((copied_closed m ids).below e.0 p (subst (IsIn p) (sym under) (inl refl)) copied)
 
   pub children_copied : (p : List ℕ) → has (shapes_under m ids) p ≡ true → children (shapes_under m ids) p ≡ children m p
   children_copied p is =
       ap (λ es. map (λ (s : Sibling). s.id) (in_order sibling_order (map sibling_of es)))
       (filter_twice (is_child p) (λ e. is_shape e.0 && is_copied m ids e.0) m
-      (each-weaker (IsAt m) (λ e. is_child p e ≡ true → (is_shape e.0 && is_copied m ids e.0) ≡ true) (child_copied p (and_two (is_shape p) (is_copied m ids p) (has_copied p is))) m (each_at m rising)))
+      (each-weaker (IsAt m) (λ e. is_child p e ≡ true → (is_shape e.0 && is_copied m ids e.0) ≡ true) (child_copied p (and_right (is_shape p) (is_copied m ids p) (has_copied p is))) m (each_at m rising)))

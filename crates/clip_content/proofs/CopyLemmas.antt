@@ -10,7 +10,8 @@ use Rattle.side_effects.specs.Reaching.{reaches}
 use Rattle.side_effects.specs.ReachingLaws.{IsIn, AreAll, IsClosed}
 use Rattle.side_effects.specs.Records.{parent_of}
 use Rattle.side_effects.specs.Whole.{parent_at, parents}
-use Rattle.side_effects.proofs.ReachingLemmas.{closed_below, has_ends, within, or_left as or_true, or_false as or_none}
+use Rattle.side_effects.proofs.ReachingLemmas.{closed_below, has_ends, within, or_false as or_none}
+use Rattle.rooms_val.proofs.Truths.{or_left}
 use Rattle.side_effects.proofs.FilterLemmas.{is_in-keys}
 use Rattle.clip_content.specs.Copied.{is_one_of, is_copied}
 
@@ -19,7 +20,7 @@ module _ {X : Type 0} (up : X → List X) (is_end : X → Bool) where
   pub reach_here : (n : ℕ) (x : X) → is_end x ≡ true → reaches up is_end n x ≡ true
   unfolding reaches
   reach_here zero x is = is
-  reach_here (suc n) x is = or_true (is_end x) (list_any (reaches up is_end n) (up x)) is
+  reach_here (suc n) x is = or_left (is_end x) (list_any (reaches up is_end n) (up x)) is
 
   pub reach_none : (x : X) → reaches up is_end 0 x ≡ is_end x
   unfolding reaches

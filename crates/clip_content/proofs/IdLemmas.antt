@@ -12,9 +12,10 @@ use Rattle.std.specs.Int.{is_in_range}
 use Rattle.rooms_val.specs.Data.{Pairs}
 use Rattle.record_valid.specs.Ids.{is_unique_byte, is_unique}
 use Rattle.shape_tree.specs.Records.{is_shape, is_binding}
-use Rattle.side_effects.proofs.PlacingLemmas.{and_first as and_one, and_second as and_two}
+use Rattle.rooms_val.proofs.Truths.{and_left, and_right}
 use Rattle.clip_content.specs.Pasted.{place_in, last_digit, four_digits, new_id}
 use Rattle.room_model.specs.Clips.{is_prefix}
+use Rattle.index_keys.proofs.KeyLemmas.{le_from_test, test_from_le}
 
 in_digits : (b : ℕ) → 48 ≤ b → b ≤ 57 → is_in_range 48 57 b ≡ true
 in_digits b low high = grind (arith, nat_tests)
@@ -25,20 +26,14 @@ digit_unique n = or_left _ _ (or_left _ _ (or_left _ _ (in_digits (last_digit n)
 digits_unique : (n : ℕ) → list_all is_unique_byte (four_digits n) ≡ true
 digits_unique n = and_from _ _ (digit_unique (n / 1000)) (and_from _ _ (digit_unique (n / 100)) (and_from _ _ (digit_unique (n / 10)) (and_from _ _ (digit_unique n) refl)))
 
-le_from_test : (m n : ℕ) → nat_le m n ≡ true → m ≤ n
-le_from_test m n test = grind (arith, nat_tests)
-
-test_from_le : (m n : ℕ) → m ≤ n → nat_le m n ≡ true
-test_from_le m n enough = grind (arith, nat_tests)
-
 test_from_lt : (m n : ℕ) → m < n → nat_lt m n ≡ true
 test_from_lt m n enough = grind (arith, nat_tests)
 
 unique_part : (prefix : List ℕ) (n : ℕ) → is_prefix prefix ≡ true → is_unique (prefix ++ four_digits n) ≡ true
 unique_part prefix n is =
-    let rest = and_two (nat_lt 0 (length prefix)) (nat_le (length prefix) 60 && list_all is_unique_byte prefix) is in
-    let short = le_from_test (length prefix) 60 (and_one (nat_le (length prefix) 60) (list_all is_unique_byte prefix) rest) in
-    let bytes = and_two (nat_le (length prefix) 60) (list_all is_unique_byte prefix) rest in
+    let rest = and_right (nat_lt 0 (length prefix)) (nat_le (length prefix) 60 && list_all is_unique_byte prefix) is in
+    let short = le_from_test (length prefix) 60 (and_left (nat_le (length prefix) 60) (list_all is_unique_byte prefix) rest) in
+    let bytes = and_right (nat_le (length prefix) 60) (list_all is_unique_byte prefix) rest in
     let long = length-append prefix (four_digits n) in
     and_from _ _ (test_from_lt 0 (length (prefix ++ four_digits n)) (omega arith))
     (and_from _ _ (test_from_le (length (prefix ++ four_digits n)) 64 (omega arith))

@@ -5,6 +5,7 @@ use Rattle.std.specs.Cmp.{nat_cmp_is}
 use Rattle.std.specs.Ordering.{is_lt, ordering_then, ordering_reverse}
 use Rattle.std.proofs.lemmas.Bool.{cases_lt}
 use Rattle.std.proofs.lemmas.Cmp.{nat_list_cmp_total}
+use Rattle.rooms_val.proofs.Truths.{is_Less}
 use Rattle.rooms_val.specs.Data.{Pairs}
 use Rattle.rooms_val.specs.Maps.{order, value_at}
 use Rattle.rooms_val.specs.Places.{IsPlace, IsGap}
@@ -12,11 +13,6 @@ use Rattle.rooms_val.specs.View.{data_of, pairs_view}
 use Rattle.rooms_val.specs.declared.val.Val.{Val}
 use Rattle.rooms_val.proofs.MapsLemmas.{same_key, order_itself, flipped, by_tie}
 use Rattle.clip_content.specs.Pasted.{place_in, last_digit, four_digits, new_id}
-
-is_Less : (w : Ordering) → is_lt w ≡ true → w ≡ Less
-is_Less Less e = refl
-is_Less Equal e = absurd (let no : false ≡ true = e in (cc))
-is_Less Greater e = absurd (let no : false ≡ true = e in (cc))
 
 -- the lists begin with a lesser and a greater number, or with one number before lists in order
 less_first : (a b : ℕ) (xs ys : List ℕ) → a < b → order (a ∷ xs) (b ∷ ys) ≡ Less

@@ -1,7 +1,7 @@
 -- What a step makes of each record, and that a step by the inverse brings the document back.
 use Rattle.std.proofs.Common.{◌≡◌, ℕ, List, [], ◌∷◌, Bool, true, false, cond, is_eq, Option, Some, None, refl, sym, ap, subst, ◌∙◌}
 use Rattle.std.specs.Option.{option_map_or, option_and_then}
-use Rattle.rooms_val.specs.Data.{Data, Pairs, map, members_of, AreSoundMembers, IsSound, IsSoundRecord}
+use Rattle.rooms_val.specs.Data.{Data, Pairs, map, members_of, IsSound, IsSoundRecord}
 use Rattle.rooms_val.specs.Maps.{value_at, AreRising, set_at, ties}
 use Rattle.field_ops.specs.ValueOps.{Patch, edits_of}
 use Rattle.field_ops.specs.RecordOps as change
@@ -10,14 +10,10 @@ use Rattle.field_ops.specs.Patched.{raw, patched}
 use Rattle.rooms_val.specs.Kinds.{on_map}
 use Rattle.field_ops.specs.Inverses.{inverse, patch_back}
 use Rattle.rooms_val.proofs.MapsLemmas.{by_tie, order_itself, at-set_at, at-without_key, rising-set_at, rising_rest, taken_first, same_pairs}
-use Rattle.rooms_val.proofs.DataLemmas.{rising_pairs}
+use Rattle.rooms_val.proofs.DataLemmas.{rising_pairs, sound_at}
 use Rattle.field_ops.proofs.ComposeLemmas.{brings_back}
 use Rattle.doc_model.specs.Documents.{acts_on, acts, step_at, step}
 use Rattle.doc_model.specs.Inverses.{record_after, inverse_on, inverse_of_op, inverse_diff, ArePatchedAdmitted}
-
-pub sound_at : (m : Pairs) (id : List ℕ) → AreSoundMembers (members_of m) → IsSoundRecord (value_at m id)
-sound_at [] id each = tt
-sound_at (p ∷ m) id each = elim (ties id p.0) as (λ b. IsSoundRecord (cond b (Some p.1) (value_at m id))) [ true ↦ each.0 | false ↦ sound_at m id each.1 ]
 
 -- the first of rising keys doesn't stand later
 pub none_later : {X : Type 0} (e : List ℕ × X) (es : List (List ℕ × X)) → AreRising (e ∷ es) → value_at es e.0 ≡ None

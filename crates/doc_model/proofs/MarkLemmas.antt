@@ -2,13 +2,12 @@
 use Rattle.std.proofs.Common.{◌≡◌, ℕ, suc, ◌+◌, ◌-◌, ◌<◌, List, [], ◌∷◌, ◌++◌, length, map, reverse, take, drop, filter_map, Bool, true, false, not, ◌&&◌, ◌||◌, ◌≢◌, cond, Some, None, refl, sym, ap, subst, ◌∙◌, arith}
 use Rattle.std.proofs.Math.Seq.{drop-append_seam, take-append_seam}
 use Rattle.std.specs.List.{prefix_len, suffix_len, list_all, list_any, before_last, after_last}
-use Rattle.std.proofs.lemmas.Slice.Eq.{bytes_eq-Decides}
-use Rattle.std.specs.Str.{bytes_eq}
 use Rattle.std.proofs.lemmas.List.{reverse-append, length-append, length-reverse, append_assoc}
 use Rattle.std.proofs.lemmas.List.Folds.{list_all-append}
 use Rattle.field_ops.specs.RecordOps.{RecordOps}
 use Rattle.doc_model.specs.Merging.{merge}
 use Rattle.doc_model.specs.Marks.{Item, mark, inverse, Redo, Marks, is_mark, is_inverse, is_named, diff_in, name_in, at_end, before_end, Parts, parts_of, merge_some, undo_diff, after_undo, bail_diff, after_bail}
+use Rattle.rooms_val.proofs.Truths.{bytes_eq_itself}
 
 module _ {X : Type 0} (p : X → Bool) where
   -- where all of a first part pass, the count goes on behind it
@@ -150,13 +149,10 @@ any_in : {X : Type 0} (p : X → Bool) (before after : List X) (x : X) → p x �
 any_in p [] after x passes = ap (λ b. b || list_any p after) passes
 any_in p (y ∷ before) after x passes = elim (p y) as (λ b. (b || list_any p (before ++ x ∷ after)) ≡ true) [ true ↦ refl | false ↦ any_in p before after x passes ]
 
-itself : (name : List ℕ) → bytes_eq name name ≡ true
-itself name = (bytes_eq-Decides name name).1 refl
-
 pub bail_diff-append : (name : List ℕ) (before after : List Item) (redos : List Redo) → list_any (is_named name) after ≡ false
     → bail_diff name (record { history = before ++ mark name ∷ after; redos = redos }) ≡ Some (merge (filter_map diff_in after))
 bail_diff-append name before after redos last =
-    let same : is_named name (mark name) ≡ true = itself name in
+    let same : is_named name (mark name) ≡ true = bytes_eq_itself name in
     ap (λ b. cond b (Some (merge (filter_map diff_in (after_last (is_named name) (before ++ mark name ∷ after))))) None) (any_in (is_named name) before after (mark name) same)
     ∙ ap (λ items. Some (merge (filter_map diff_in items))) (after_last-append (is_named name) before after (mark name) same last)
 
@@ -164,4 +160,4 @@ pub after_bail-append : (name : List ℕ) (before after : List Item) (redos : Li
     → after_bail name (record { history = before ++ mark name ∷ after; redos = redos }) ≡ record { history = before; redos = [] }
 after_bail-append name before after redos last =
     let made : List Item → Marks = λ items. record { history = items; redos = [] } in
-    ap made (before_last-append (is_named name) before after (mark name) (itself name) last)
+    ap made (before_last-append (is_named name) before after (mark name) (bytes_eq_itself name) last)

@@ -24,7 +24,7 @@ pub rising-fold_raw : (diff : RecordOps) (m : Pairs) → AreRising m → AreRisi
 rising-fold_raw [] m rising = rising
 rising-fold_raw (c ∷ diff) m rising = rising-fold_raw diff (set_at m c.0 (raw c.1 (value_at m c.0))) (rising-set_at m c.0 (raw c.1 (value_at m c.0)) rising)
 
-at-diff_after : (first second : RecordOps) (q : List ℕ) → value_at (diff_after first second) q ≡ both_in_turn (value_at first q) (value_at second q)
+pub at-diff_after : (first second : RecordOps) (q : List ℕ) → value_at (diff_after first second) q ≡ both_in_turn (value_at first q) (value_at second q)
 at-diff_after first [] q = elim (value_at first q) as (λ o. o ≡ both_in_turn o None) [ None ↦ refl | Some c ↦ refl ]
 at-diff_after first (c ∷ second) q =
     at-set_at (diff_after first second) c.0 q (both_in_turn (value_at first c.0) (Some c.1))
@@ -36,7 +36,7 @@ pub at-merge : (diffs : List RecordOps) (q : List ℕ) → value_at (merge diffs
 at-merge [] q = refl
 at-merge (diff ∷ newer) q = at-diff_after (merge newer) diff q ∙ ap (λ o. both_in_turn o (value_at diff q)) (at-merge newer q)
 
-rising-diff_after : (first second : RecordOps) → AreRising first → AreRising (diff_after first second)
+pub rising-diff_after : (first second : RecordOps) → AreRising first → AreRising (diff_after first second)
 rising-diff_after first [] rising = rising
 rising-diff_after first (c ∷ second) rising = rising-set_at (diff_after first second) c.0 (both_in_turn (value_at first c.0) (Some c.1)) (rising-diff_after first second rising)
 

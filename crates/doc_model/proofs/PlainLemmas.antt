@@ -2,6 +2,7 @@
 use Rattle.std.proofs.Common.{◌≡◌, ℕ, List, [], ◌∷◌, Bool, true, false, not, ◌||◌, cond, nat_eq, length, Option, Some, None, option_map, refl, ap, subst, ◌∙◌}
 use Rattle.std.specs.Prelude.{unwrap_or}
 use Rattle.std.proofs.lemmas.Option.{same_Some}
+use Rattle.rooms_val.proofs.Truths.{or_false_left, or_false_right}
 use Rattle.rooms_val.specs.Data.{Data, null, boolean, whole, text, list, map, Pairs, list_of, pairs_of}
 use Rattle.rooms_val.specs.Maps.{value_at, set_at, ties, EachValue}
 use Rattle.rooms_val.proofs.MapsLemmas.{each-with_key, each-where_key}
@@ -28,14 +29,6 @@ module _ {V : Type 0} (P : V → Type 0) where
   each-set_at es k None each new = each-where_key P (λ q. not (ties k q)) es each
   each-set_at es k (Some v) each new = each-with_key P es k v each (new v refl)
 
-or_left : (a b : Bool) → (a || b) ≡ false → a ≡ false
-or_left true b h = h
-or_left false b h = refl
-
-or_right : (a b : Bool) → (a || b) ≡ false → b ≡ false
-or_right true b h = absurd (cc)
-or_right false b h = h
-
 -- an operation has no append
 abbrev Plain : ValueOpTree → Type 0
 Plain e = edit_has_append e ≡ false
@@ -49,11 +42,11 @@ plain_edits (e ∷ p) each = ap (λ b. b || edits_have_append (edits_of p)) each
 
 each_plain : (p : Patch) → edits_have_append (edits_of p) ≡ false → EachPlain p
 each_plain [] plain = tt
-each_plain (e ∷ p) plain = (or_left (edit_has_append e.1) (edits_have_append (edits_of p)) plain, each_plain p (or_right (edit_has_append e.1) (edits_have_append (edits_of p)) plain))
+each_plain (e ∷ p) plain = (or_false_left (edit_has_append e.1) (edits_have_append (edits_of p)) plain, each_plain p (or_false_right (edit_has_append e.1) (edits_have_append (edits_of p)) plain))
 
 each_edit : (es : ValueOpTrees) → edits_have_append es ≡ false → EachPlain (patch_of es)
 each_edit no_edits plain = tt
-each_edit (edit_at k e es) plain = (or_left (edit_has_append e) (edits_have_append es) plain, each_edit es (or_right (edit_has_append e) (edits_have_append es) plain))
+each_edit (edit_at k e es) plain = (or_false_left (edit_has_append e) (edits_have_append es) plain, each_edit es (or_false_right (edit_has_append e) (edits_have_append es) plain))
 
 -- what an operation is undone by
 
@@ -111,8 +104,8 @@ mutual
   plain_both : (es : ValueOpTrees) (p : Patch) → edits_have_append es ≡ false → EachPlain p → EachPlain (both es p)
   plain_both no_edits p later each = each
   plain_both (edit_at k e es) p later each =
-      let plain = or_left (edit_has_append e) (edits_have_append es) later in
-      each-with_key Plain (both es p) k (unwrap_or (option_map (λ first. after e first) (value_at p k)) e) (plain_both es p (or_right (edit_has_append e) (edits_have_append es) later) each)
+      let plain = or_false_left (edit_has_append e) (edits_have_append es) later in
+      each-with_key Plain (both es p) k (unwrap_or (option_map (λ first. after e first) (value_at p k)) e) (plain_both es p (or_false_right (edit_has_append e) (edits_have_append es) later) each)
       (elim (value_at p k) as (λ o. value_at p k ≡ o → Plain (unwrap_or (option_map (λ first. after e first) o) e)) [
         | None ↦ λ is. plain
         | Some first ↦ λ is. plain_after e first plain (each_at Plain p k first each is)

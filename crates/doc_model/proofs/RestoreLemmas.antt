@@ -11,7 +11,7 @@ use Rattle.rooms_val.specs.Data.{Data, Pairs, map as map_data, members_of, IsSou
 use Rattle.rooms_val.specs.Kinds.{on_map}
 use Rattle.rooms_val.specs.Maps.{value_at, AreRising}
 use Rattle.rooms_val.proofs.MapsLemmas.{same_pairs}
-use Rattle.rooms_val.proofs.DataLemmas.{rising_pairs}
+use Rattle.rooms_val.proofs.DataLemmas.{rising_pairs, sound_at}
 use Rattle.field_ops.specs.ValueOps.{Patch, edits_of}
 use Rattle.field_ops.specs.RecordOps as change
 use Rattle.field_ops.specs.RecordOps.{RecordOpTree, RecordOps}
@@ -24,7 +24,7 @@ use Rattle.doc_model.specs.Inverses.{record_after, inverse_on, inverse_diff}
 use Rattle.doc_model.specs.Merging.{both_in_turn, merge, merged_at}
 use Rattle.doc_model.specs.Marks.{Item, mark, inverse as back, Marks, diff_in, is_inverse, is_named, undo_diff, bail_diff, after_mark, after_edit}
 use Rattle.doc_model.specs.Restoring.{IsPlain, ArePlain, Restores, AreBackAdmitted}
-use Rattle.doc_model.proofs.InverseLemmas.{sound_at, at-step, rising-step, rising-inverse_diff, at-inverse_diff}
+use Rattle.doc_model.proofs.InverseLemmas.{at-step, rising-step, rising-inverse_diff, at-inverse_diff}
 use Rattle.doc_model.proofs.MergeLemmas.{at-fold_raw, rising-fold_raw, at-merge, rising-merge}
 use Rattle.doc_model.proofs.MarkLemmas.{diffs-inverses, suffix_none, undo_diff-append, bail_diff-append}
 use Rattle.doc_model.proofs.PlainLemmas.{PlainIf, plain_at, plain_merged, plain_inverse_diff}

@@ -5,22 +5,23 @@ use Rattle.std.specs.Ordering.{is_lt}
 use Rattle.std.specs.FinMap.Entries.{below_all, by_order, where_key}
 use Rattle.rooms_val.specs.Data.{Data, Pairs}
 use Rattle.rooms_val.specs.Maps.{order, AreRising, with_key, set_at}
-use Rattle.rooms_val.proofs.MapsLemmas.{first, second, both, less, rising_rest, none_later}
+use Rattle.rooms_val.proofs.MapsLemmas.{first, second, less, rising_rest, none_later}
+use Rattle.rooms_val.proofs.Truths.{and_holds}
 use Rattle.doc_store.specs.Slots.{Slots, held, present}
 use Rattle.doc_store.proofs.SlotLaws.{present-empty, present-without_key}
 
 below-put : (k id : List ℕ) (m : Pairs) (d : Data) → T (is_lt (order k id)) → T (below_all order k m) → T (below_all order k (with_key m id d))
-below-put k id [] d lower h = both _ _ lower tt
+below-put k id [] d lower h = and_holds _ _ lower tt
 below-put k id (p ∷ m) d lower h = elim (order id p.0) as (λ o. T (below_all order k (by_order o ((id, d) ∷ p ∷ m) ((p.0, d) ∷ m) (p ∷ with_key m id d)))) [
-  | Less ↦ both _ _ lower h
+  | Less ↦ and_holds _ _ lower h
   | Equal ↦ h
-  | Greater ↦ both _ _ (first _ _ h) (below-put k id m d lower (second _ _ h))
+  | Greater ↦ and_holds _ _ (first _ _ h) (below-put k id m d lower (second _ _ h))
 ]
 
 below-where : (k : List ℕ) (test : List ℕ → Bool) (m : Pairs) → T (below_all order k m) → T (below_all order k (where_key order test m))
 below-where k test [] h = tt
 below-where k test (p ∷ m) h = elim (test p.0) as (λ b. T (below_all order k (cond b (p ∷ where_key order test m) (where_key order test m)))) [
-  | true ↦ both _ _ (first _ _ h) (below-where k test m (second _ _ h))
+  | true ↦ and_holds _ _ (first _ _ h) (below-where k test m (second _ _ h))
   | false ↦ below-where k test m (second _ _ h)
 ]
 

@@ -10,7 +10,8 @@ use Rattle.std.specs.Map.{lookup, remove_entry, set_value}
 use Rattle.std.specs.String.{string_cmp}
 use Rattle.std.specs.declared.string.String.{String}
 use Rattle.rooms_val.specs.Maps.{order, AreRising, value_at, with_key, without_key, ties, seen}
-use Rattle.rooms_val.proofs.MapsLemmas.{first, second, both, by_tie, order_itself, rising_rest, taken_first, taken_lower, none_later, at-with_key, at-without_key, rising-with_key, rising-without_key, at-seen, rising-seen}
+use Rattle.rooms_val.proofs.MapsLemmas.{first, second, by_tie, order_itself, rising_rest, taken_first, taken_lower, none_later, at-with_key, at-without_key, rising-with_key, rising-without_key, at-seen, rising-seen}
+use Rattle.rooms_val.proofs.Truths.{and_holds}
 use Rattle.edit_names.specs.Names.{Names, count_at, once, AreNames, names_view}
 
 on_both : {X : Type 0} (b : Bool) (e : X) (x y : List X) → e ∷ cond b x y ≡ cond b (e ∷ x) (e ∷ y)
@@ -145,13 +146,13 @@ module _ {V : Type 0} where
   below-take : (k : List ℕ) (n : ℕ) (es : List (List ℕ × V)) → T (below_all order k es) → T (below_all order k (take n es))
   below-take k zero es below = tt
   below-take k (suc n) [] below = tt
-  below-take k (suc n) (e ∷ es) below = both (is_lt (order k e.0)) (below_all order k (take n es)) (first (is_lt (order k e.0)) (below_all order k es) below) (below-take k n es (second (is_lt (order k e.0)) (below_all order k es) below))
+  below-take k (suc n) (e ∷ es) below = and_holds (is_lt (order k e.0)) (below_all order k (take n es)) (first (is_lt (order k e.0)) (below_all order k es) below) (below-take k n es (second (is_lt (order k e.0)) (below_all order k es) below))
 
   -- the first ids rise too
   pub rising-take : (n : ℕ) (es : List (List ℕ × V)) → AreRising es → AreRising (take n es)
   rising-take zero es rising = tt
   rising-take (suc n) [] rising = tt
-  rising-take (suc n) (e ∷ es) rising = both (below_all order e.0 (take n es)) (is_sorted order (take n es)) (below-take e.0 n es (first (below_all order e.0 es) (is_sorted order es) rising)) (rising-take n es (rising_rest e es rising))
+  rising-take (suc n) (e ∷ es) rising = and_holds (below_all order e.0 (take n es)) (is_sorted order (take n es)) (below-take e.0 n es (first (below_all order e.0 es) (is_sorted order es) rising)) (rising-take n es (rising_rest e es rising))
 
   -- the ids of the diff so far, and one more
   pub once-next : (es : List (List ℕ × V)) (i : ℕ) (x : List ℕ × V) (q : List ℕ) → AreRising es → i < length es → x ≡ get_or es i x → once (take (i + 1) es) q ≡ once (take i es) q + cond (ties q x.0) 1 0
@@ -160,7 +161,7 @@ module _ {V : Type 0} where
   pub once-all : (es : List (List ℕ × V)) (i : ℕ) (q : List ℕ) → length es ≤ i → once (take i es) q ≡ once es q
   once-all es i q past = ap (λ l. once l q) (take_all i es past)
 
-some-map : {X Z : Type 0} (f : X → Z) (o : Option X) → is_some (option_map f o) ≡ is_some o
+pub some-map : {X Z : Type 0} (f : X → Z) (o : Option X) → is_some (option_map f o) ≡ is_some o
 some-map f None = refl
 some-map f (Some x) = refl
 

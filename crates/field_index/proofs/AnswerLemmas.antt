@@ -10,6 +10,7 @@ use Rattle.std.specs.List.Sorted.{IsStrictlySortedBy}
 use Rattle.std.specs.Option.{option_map_or}
 use Rattle.std.specs.Ordering.{is_lt, is_le}
 use Rattle.std.proofs.lemmas.Map.Lookups.{btree_set_from_contains, exact_bytes}
+use Rattle.rooms_val.proofs.Truths.{or_left, or_right, iff_same}
 use Rattle.rooms_val.specs.Data.{Data, Pairs}
 use Rattle.rooms_val.specs.Maps.{order, ties, AreRising, value_at, keys_of}
 use Rattle.rooms_val.specs.OrderLaws.{data_total}
@@ -49,19 +50,6 @@ filter_within strong weak implied (x ∷ xs) =
 pub least_id : (id : List ℕ) → is_le (order [] id) ≡ true
 least_id [] = refl
 least_id (x ∷ id) = refl
-
--- two truths that follow from one another
-both_ways : (a b : Bool) → (a ≡ true → b ≡ true) → (b ≡ true → a ≡ true) → a ≡ b
-both_ways true b there back = sym (there refl)
-both_ways false true there back = back refl
-both_ways false false there back = refl
-
-or_left : (a b : Bool) → a ≡ true → (a || b) ≡ true
-or_left a b is = ap (λ x. x || b) is
-
-or_right : (a b : Bool) → b ≡ true → (a || b) ≡ true
-or_right true b is = refl
-or_right false b is = is
 
 module _ (test : Data → Bool) where
   -- a place whose value passes gives its id
@@ -111,7 +99,7 @@ module _ (test : Data → Bool) where
   passing_value (Some v) passes = record { v = v; is = refl; passes = passes }
 
   has-ids_at : (es : List (List ℕ × Val)) (ks : List Place) → ArePlaces es ks → (q : List ℕ) → has (ids_at test ks) q ≡ passes_at (value_at es q)
-  has-ids_at es ks are q = both_ways (has (ids_at test ks) q) (passes_at (value_at es q))
+  has-ids_at es ks are q = iff_same (has (ids_at test ks) q) (passes_at (value_at es q))
       (λ there.
       let r = among-from_has ks q there in
       ap (λ k. passes_at (value_at es k)) r.id ∙ value_passes (value_at es r.place.id) r.place (sym (are.same r.place) ∙ r.among) r.passes)

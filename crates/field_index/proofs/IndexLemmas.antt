@@ -9,7 +9,8 @@ use Rattle.rooms_val.specs.Kinds.{as_whole, field}
 use Rattle.rooms_val.specs.Maps.{order, ties, AreRising, value_at, set_at, keys_of}
 use Rattle.rooms_val.specs.View.{data_of}
 use Rattle.rooms_val.specs.declared.val.Val.{Val}
-use Rattle.rooms_val.proofs.MapsLemmas.{first, second, both, by_tie, none_later, at-set_at, rising-set_at, rising_rest, same_pairs}
+use Rattle.rooms_val.proofs.MapsLemmas.{first, second, by_tie, none_later, at-set_at, rising-set_at, rising_rest, same_pairs}
+use Rattle.rooms_val.proofs.Truths.{and_holds}
 use Rattle.shape_tree.specs.Queries.{is_same, meets, meets_with, ids_meeting}
 use Rattle.shape_tree.specs.Records.{is_id_of}
 use Rattle.shape_tree.specs.declared.query.Query.{Query}
@@ -27,13 +28,13 @@ module _ (g : List ℕ → Data → Option Data) where
   below-kept k [] h = tt
   below-kept k (e ∷ m) h =
       let rest = below-kept k m (second _ _ h) in
-      elim (g e.0 e.1) as (λ o. T (below_all order k (cons_option (option_map (λ v. (e.0, v)) o) (kept m)))) [ None ↦ rest | Some v ↦ both _ _ (first _ _ h) rest ]
+      elim (g e.0 e.1) as (λ o. T (below_all order k (cons_option (option_map (λ v. (e.0, v)) o) (kept m)))) [ None ↦ rest | Some v ↦ and_holds _ _ (first _ _ h) rest ]
 
   rising-kept : (m : Pairs) → AreRising m → AreRising (kept m)
   rising-kept [] rising = tt
   rising-kept (e ∷ m) rising =
       let rest = rising-kept m (rising_rest e m rising) in
-      elim (g e.0 e.1) as (λ o. AreRising (cons_option (option_map (λ v. (e.0, v)) o) (kept m))) [ None ↦ rest | Some v ↦ both _ _ (below-kept e.0 m (first _ _ rising)) rest ]
+      elim (g e.0 e.1) as (λ o. AreRising (cons_option (option_map (λ v. (e.0, v)) o) (kept m))) [ None ↦ rest | Some v ↦ and_holds _ _ (below-kept e.0 m (first _ _ rising)) rest ]
 
   at-kept : (m : Pairs) (q : List ℕ) → AreRising m → value_at (kept m) q ≡ option_and_then (g q) (value_at m q)
   at-kept [] q rising = refl

@@ -7,6 +7,7 @@ use Rattle.std.specs.List.Sorted.{IsStrictlySortedBy}
 use Rattle.std.specs.Option.{option_map_or}
 use Rattle.std.specs.Ordering.{ordering_then, eq_by_cmp}
 use Rattle.std.proofs.lemmas.Cmp.{on_total, then_total}
+use Rattle.rooms_val.proofs.Truths.{both_Equal}
 use Rattle.rooms_val.specs.Data.{Data}
 use Rattle.rooms_val.specs.Maps.{order, ties, AreRising, value_at, with_key, set_at}
 use Rattle.rooms_val.specs.Order.{data_cmp}
@@ -35,14 +36,9 @@ was_absent false r is on = refl
 pub val_from_data : (a b : Val) → data_of a ≡ data_of b → a ≡ b
 val_from_data a b is = (same_vals a b).0 (ap (λ d. is_eq (data_cmp (data_of a) d)) (sym is) ∙ ap is_eq (tied_itself data_total (data_of a)))
 
-then_level : (a b : Ordering) → ordering_then a b ≡ Equal → (a ≡ Equal) × (b ≡ Equal)
-then_level Less b is = cc
-then_level Equal b is = (refl, is)
-then_level Greater b is = cc
-
 pub same_place : (p q : Place) → place_order p q ≡ Equal → p ≡ q
 same_place p q is =
-    let parts = then_level (data_cmp (data_of p.value) (data_of q.value)) (order p.id q.id) is in
+    let parts = both_Equal (data_cmp (data_of p.value) (data_of q.value)) (order p.id q.id) is in
     let value = (same_vals p.value q.value).0 ((Equal-is (data_cmp (data_of p.value) (data_of q.value))).1 parts.0) in
     let id = same_key p.id q.id parts.1 in
     λ i. record { value = value i; id = id i }

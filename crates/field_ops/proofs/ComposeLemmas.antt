@@ -1,7 +1,8 @@
 -- What operations in turn make of a record: with an inverse the record before, and of two what their one operation makes.
 use Rattle.std.proofs.Common.{◌≡◌, ℕ, Bool, true, false, ◌||◌, cond, List, [], ◌∷◌, ◌++◌, Option, Some, None, refl, sym, ap, subst, ◌∙◌, length, nat_eq}
 use Rattle.std.specs.Option.{option_and_then}
-use Rattle.rooms_val.specs.Data.{Data, null, boolean, whole, text, list, map, Pairs, Items, item, no_items, items_of, list_of, Members, members_of, pairs_of, IsSound, AreSoundItems, AreSoundMembers, IsSoundRecord}
+use Rattle.rooms_val.proofs.Truths.{or_false_left, or_false_right}
+use Rattle.rooms_val.specs.Data.{Data, null, boolean, whole, text, list, map, Pairs, Items, items_of, list_of, Members, members_of, pairs_of, IsSound, AreSoundItems, AreSoundMembers, IsSoundRecord}
 use Rattle.rooms_val.proofs.DataLemmas.{pairs_of-members_of, members_of-pairs_of, sound_at, sound-set_at}
 use Rattle.rooms_val.specs.Maps.{AreRising, value_at, ties}
 use Rattle.field_ops.specs.ValueOps.{ValueOpTree, put, patch, append, append_text, delete, ValueOpTrees, no_edits, edit_at, edits_of, patch_of, Patch, edit_has_append, edits_have_append, IsSoundEdit, AreSoundEdits}
@@ -13,6 +14,7 @@ use Rattle.field_ops.specs.Laws.{raw_after}
 use Rattle.rooms_val.proofs.MapsLemmas.{same_pairs}
 use Rattle.field_ops.proofs.PatchedLemmas.{at-patched, at-inverted, at-both, rising-patched}
 use Rattle.field_ops.proofs.WireLemmas.{edits_of-patch_of}
+use Rattle.field_ops.proofs.ReadingLemmas.{items_again}
 
 sound_in : (ms : Members) (k : List ℕ) → AreSoundMembers ms → IsSoundRecord (value_at (pairs_of ms) k)
 sound_in ms k each = sound_at (pairs_of ms) k (subst AreSoundMembers (sym (members_of-pairs_of ms)) each)
@@ -119,19 +121,11 @@ brings_back change.remove (Some r) sound = refl
 abbrev Joins : ValueOpTree → Type 0
 Joins e = edit_has_append e ≡ false → (d : ValueOpTree) → edit_has_append d ≡ false → (o : Option Data) → IsSoundRecord o → edited (after e d) o ≡ edited e (edited d o)
 
-or_left : (a b : Bool) → (a || b) ≡ false → a ≡ false
-or_left true b h = h
-or_left false b h = refl
-
-or_right : (a b : Bool) → (a || b) ≡ false → b ≡ false
-or_right true b h = cc
-or_right false b h = h
-
-plain_at : (p : Patch) (k : List ℕ) (e : ValueOpTree) → edits_have_append (edits_of p) ≡ false → value_at p k ≡ Some e → edit_has_append e ≡ false
+pub plain_at : (p : Patch) (k : List ℕ) (e : ValueOpTree) → edits_have_append (edits_of p) ≡ false → value_at p k ≡ Some e → edit_has_append e ≡ false
 plain_at [] k e plain is = cc
 plain_at (d ∷ p) k e plain is = elim (ties k d.0) as (λ b. cond b (Some d.1) (value_at p k) ≡ Some e → edit_has_append e ≡ false) [
-  | true ↦ λ same. let one : d.1 ≡ e = cc in subst (λ x. edit_has_append x ≡ false) one (or_left (edit_has_append d.1) (edits_have_append (edits_of p)) plain)
-  | false ↦ λ later. plain_at p k e (or_right (edit_has_append d.1) (edits_have_append (edits_of p)) plain) later
+  | true ↦ λ same. let one : d.1 ≡ e = cc in subst (λ x. edit_has_append x ≡ false) one (or_false_left (edit_has_append d.1) (edits_have_append (edits_of p)) plain)
+  | false ↦ λ later. plain_at p k e (or_false_right (edit_has_append d.1) (edits_have_append (edits_of p)) plain) later
 ] is
 
 joins_at : (v : Option Data) → IsSoundRecord v → (b a : Option ValueOpTree) → ((e : ValueOpTree) → b ≡ Some e → Joins e) → ((e : ValueOpTree) → b ≡ Some e → edit_has_append e ≡ false) → ((d : ValueOpTree) → a ≡ Some d → edit_has_append d ≡ false)
@@ -183,12 +177,8 @@ sound_append : (es ds : List Data) → AreSoundItems (items_of es) → AreSoundI
 sound_append [] ds each more = more
 sound_append (e ∷ es) ds each more = (each.0, sound_append es ds each.1 more)
 
-items_of-list_of : (es : Items) → items_of (list_of es) ≡ es
-items_of-list_of no_items = refl
-items_of-list_of (item d es) = ap (λ rest. item d rest) (items_of-list_of es)
-
 sound_longer : (ds : List Data) (es : Items) (b : Bool) → AreSoundItems (items_of ds) → AreSoundItems es → IsSound (cond b (list (items_of (list_of es ++ ds))) (list es))
-sound_longer ds es true more each = sound_append (list_of es) ds (subst AreSoundItems (sym (items_of-list_of es)) each) more
+sound_longer ds es true more each = sound_append (list_of es) ds (subst AreSoundItems (sym (items_again es)) each) more
 sound_longer ds es false more each = each
 
 sound_lengthened : (more s : List ℕ) (b : Bool) → IsSound (cond b (text (s ++ more)) (text s))

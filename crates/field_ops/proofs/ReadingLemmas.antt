@@ -15,7 +15,7 @@ use Rattle.field_ops.specs.ValueOps.{edits_of as edits_in_patch, IsSoundEdit, Ar
 use Rattle.field_ops.specs.RecordOps as change
 use Rattle.field_ops.specs.RecordOps.{RecordOpTree, RecordOps, IsSoundChange, AreSoundChanges, IsSoundDiff}
 use Rattle.field_ops.proofs.WireLemmas.{edits_of-patch_of}
-use Rattle.rooms_val.proofs.DataLemmas.{pairs_of-members_of, list_of-items_of}
+use Rattle.rooms_val.proofs.DataLemmas.{pairs_of-members_of, list_of-items_of, members_of-pairs_of}
 use Rattle.field_ops.specs.Wire.{edit_data, edits_data}
 use Rattle.field_ops.specs.WireRecordOps.{change_data, diff_data, diff_pairs, patch_of-edits_of}
 use Rattle.std.specs.Prelude.{Ok, Err}
@@ -100,7 +100,7 @@ put_or name a b x = elim (bytes_eq name (codes "put")) as (λ t. bytes_eq name (
   | false ↦ λ t h. inr (if_named_is (codes "patch") name b x h)
 ] refl
 
-items_again : (ds : Items) → items_of (list_of ds) ≡ ds
+pub items_again : (ds : Items) → items_of (list_of ds) ≡ ds
 items_again value.no_items = refl
 items_again (value.item d ds) = ap (value.item d) (items_again ds)
 
@@ -269,10 +269,6 @@ changes_read ps cs sound h =
 
 -- ---- what readers return
 
-members_again : (ms : Members) → members_of (pairs_of ms) ≡ ms
-members_again value.no_members = refl
-members_again (value.member k d ms) = ap (value.member k d) (members_again ms)
-
 -- a value that an operation is printed as is read as that operation
 pub op_found : (d : Data) (c : RecordOpTree) → d ≡ change_data c → IsSoundChange c → ok_or (op_of_data d) WrongKind ≡ Ok c
 op_found d c is sound = ap (λ x. ok_or (op_of_data x) WrongKind) is ∙ ap (λ o. ok_or o WrongKind) (change_again c sound)
@@ -298,8 +294,8 @@ map_unread : (ms : Members) → IsSound (value.map ms) → ((cs : RecordOps) →
 map_unread ms sound none = elim (diff_of_pairs (pairs_of ms)) as (λ o. diff_of_pairs (pairs_of ms) ≡ o → o ≡ None) [
   | None ↦ λ is. refl
   | Some cs ↦ λ is.
-      let read = changes_read (pairs_of ms) cs (subst (λ x. IsSound (value.map x)) (sym (members_again ms)) sound) is in
-      absurd (none cs read.1 (ap value.map (sym (members_again ms) ∙ ap members_of read.0)))
+      let read = changes_read (pairs_of ms) cs (subst (λ x. IsSound (value.map x)) (sym (members_of-pairs_of ms)) sound) is in
+      absurd (none cs read.1 (ap value.map (sym (members_of-pairs_of ms) ∙ ap members_of read.0)))
 ] refl
 
 -- a value that no diff is printed as is read as none

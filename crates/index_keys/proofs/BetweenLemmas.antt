@@ -67,7 +67,7 @@ joined_longer integer fraction is lows ends some =
         omega arith
 
 -- what a test of two lists tells
-same_lists : (xs ys : List ℕ) → bytes_eq xs ys ≡ true → xs ≡ ys
+pub same_lists : (xs ys : List ℕ) → bytes_eq xs ys ≡ true → xs ≡ ys
 same_lists xs ys equal = same_text xs ys (sym equal)
 
 other_lists : (xs ys : List ℕ) → bytes_eq xs ys ≡ false → xs ≢ ys

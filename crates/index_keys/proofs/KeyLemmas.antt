@@ -83,10 +83,10 @@ pub chars-digits : (cs : List ℕ) → list_all is_ascii_alphanumeric cs ≡ tru
 chars-digits cs are = ap chars (sym (encodes-IsAscii cs (digits-ascii cs are))) ∙ chars-encodes cs (digits-scalars cs are)
 
 -- a number that a test found to be enough
-le_from_test : (m n : ℕ) → nat_le m n ≡ true → m ≤ n
+pub le_from_test : (m n : ℕ) → nat_le m n ≡ true → m ≤ n
 le_from_test m n test = grind (arith, nat_tests)
 
-test_from_le : (m n : ℕ) → m ≤ n → nat_le m n ≡ true
+pub test_from_le : (m n : ℕ) → m ≤ n → nat_le m n ≡ true
 test_from_le m n enough = grind (arith, nat_tests)
 
 -- a text of digits that doesn't end in `0`, by their values, and back

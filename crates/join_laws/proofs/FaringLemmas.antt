@@ -2,12 +2,13 @@
 use Rattle.std.proofs.Common.{◌≡◌, inl, inr, ℕ, zero, suc, nat_lt, ◌≤◌, ℤ, pos, negsuc, Bool, true, false, ◌&&◌, cond, List, [], ◌∷◌, ◌++◌, length, map, Option, Some, None, option_map, refl, sym, ap, subst, ◌∙◌, append-nil, append_assoc, arith}
 use Rattle.std.specs.Prelude.{fold, filter_map, find, is_none, decimal, int_lt, option_to_list}
 use Rattle.std.specs.Option.{option_map_or, option_or}
-use Rattle.std.proofs.lemmas.Bool.Decides.{nat_tests, Decides-eqb}
+use Rattle.std.proofs.lemmas.Bool.Decides.{Decides-eqb}
 use Rattle.std.proofs.lemmas.List.{map-append}
 use Rattle.std.proofs.lemmas.List.Elements.{filter_map-append}
 use Rattle.std.proofs.lemmas.List.Sums.{fold-append}
 use Rattle.std.proofs.lemmas.Option.{same_Some}
 use Rattle.std.proofs.lemmas.Slice.Eq.{bytes_eq-Decides}
+use Rattle.rooms_val.proofs.Truths.{lt_false}
 use Rattle.rooms_val.specs.Data.{Data, Pairs}
 use Rattle.doc_model.specs.Documents.{step}
 use Rattle.field_ops.specs.RecordOps.{RecordOps}
@@ -380,9 +381,6 @@ module _ (schemas : Schemas) (admits : List ℕ → Data → Bool) where
 
 -- what is expected isn't refused
 
-not_less : (a b : ℕ) → b ≤ a → nat_lt a b ≡ false
-not_less a b less = elim (nat_lt a b) as (λ c. nat_lt a b ≡ c → c ≡ false) [ true ↦ λ is. absurd (grind (arith, nat_tests)) | false ↦ λ is. refl ] refl
-
 -- no clock of events lies below a held one, or that of the event before
 abbrev pub AreNotBelow : ℤ → List DataEvent → Type 0
 AreNotBelow held [] = Unit {0}
@@ -391,14 +389,14 @@ AreNotBelow held (event ∷ events) = (int_lt (clock_of event) held ≡ false) �
 next_not_below : (n : ℕ) (events : List DataEvent) → EachNext n events → AreNotBelow (pos n) events
 next_not_below n [] h = tt
 next_not_below n (event ∷ events) h = (
-  ap (λ z. int_lt z (pos n)) h.0 ∙ not_less (suc n) n (omega arith),
+  ap (λ z. int_lt z (pos n)) h.0 ∙ lt_false (suc n) n (omega arith),
   subst (λ z. AreNotBelow z events) (sym h.0) (next_not_below (suc n) events h.1),
 )
 
 same_not_below : (held : ℕ) (to : ℕ) (events : List DataEvent) → held ≤ to → AllAt to events → AreNotBelow (pos held) events
 same_not_below held to [] less h = tt
 same_not_below held to (event ∷ events) less h = (
-  ap (λ z. int_lt z (pos held)) h.0 ∙ not_less to held less,
+  ap (λ z. int_lt z (pos held)) h.0 ∙ lt_false to held less,
   subst (λ z. AreNotBelow z events) (sym h.0) (same_not_below to to events (omega arith) h.1),
 )
 

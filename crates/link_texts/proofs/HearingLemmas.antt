@@ -1,5 +1,5 @@
 -- What a text is taken or refused for.
-use Rattle.std.proofs.Common.{◌≡◌, ℕ, inl, inr, List, Option, Result, Ok, Err, IfErr, IsErrAnd, sym, subst}
+use Rattle.std.proofs.Common.{◌≡◌, ℕ, inl, inr, List, Option, Result, Ok, Err, sym, subst}
 use Rattle.std.specs.Prelude.{IsUtf8}
 use Rattle.link_texts.specs.Faults.{fault_of_piece}
 use Rattle.link_texts.specs.Hearing.{IsTaken, RefusesPiece, RefusesText, Refuses, IfRefused}
@@ -7,11 +7,6 @@ use Rattle.link_texts.proofs.PieceLemmas.{piece_or_none}
 use Rattle.wire_text.specs.Feeding.{PieceTree, Assembly, Says, IsNoPiece, given, after}
 use Rattle.wire_text.specs.declared.fault.PieceFault.{PieceFault}
 use Rattle.wire_text.specs.declared.fault.PieceFault.TheVariants as piece
-
--- what `?` hands on
-pub refused_as : {T E : Type 0} (P : E → Type 0) (r : Result T E) (e : E) → IsErrAnd r (λ f. f ≡ e) → P e → IfErr r P
-refused_as P (Ok x) e is why = tt
-refused_as P (Err f) e is why = subst P (sym is) why
 
 -- what fails
 abbrev fails : PieceFault → Result (Option (List ℕ)) PieceFault

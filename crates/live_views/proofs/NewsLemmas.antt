@@ -1,10 +1,10 @@
 -- What the watches of a store have to tell is what those of a client have.
-use Rattle.std.proofs.Common.{◌≡◌, ◌≢◌, ℕ, zero, suc, ◌+◌, List, [], ◌∷◌, ◌++◌, Bool, true, false, Option, Some, None, option_map, map, Equal, is_eq, cond, refl, sym, ap, subst, ◌∙◌, eqb-true, eq-eqb}
+use Rattle.std.proofs.Common.{◌≡◌, ◌≢◌, ℕ, zero, suc, ◌+◌, List, [], ◌∷◌, ◌++◌, true, false, Option, Some, None, option_map, map, is_eq, cond, refl, sym, ap, subst, ◌∙◌, eqb-true, eq-eqb}
 use Rattle.std.specs.Prelude.{slice_index_or, nat_eq, IfSome, if◌then◌else◌}
 use Rattle.shape_tree.specs.declared.view.View.{View}
 use Rattle.std.specs.Cmp.{tied_itself}
-use Rattle.std.specs.declared.cmp.Ordering.{Ordering}
 use Rattle.std.specs.Option.{option_map_or}
+use Rattle.rooms_val.proofs.Truths.{not_so, is_Equal}
 use Rattle.rooms_val.specs.Data.{Data, Pairs}
 use Rattle.rooms_val.specs.Order.{data_cmp}
 use Rattle.rooms_val.specs.OrderLaws.{same_data, data_total}
@@ -28,25 +28,17 @@ Agrees m news None = news ≡ None
 Agrees m None (Some w) = is_told m w ≡ true
 Agrees m (Some v) (Some w) = (told_of v ≡ told m w.view) × (is_told m w ≡ false)
 
-level_from_test : (o : Ordering) → is_eq o ≡ true → o ≡ Equal
-level_from_test Equal is = refl
-level_from_test o is = cc
-
 same_from_test : (d e : Data) → is_same d e ≡ true → d ≡ e
-same_from_test d e is = same_data d e (level_from_test (data_cmp d e) is)
+same_from_test d e is = same_data d e (is_Equal (data_cmp d e) is)
 
 test_itself : (d : Data) → is_same d d ≡ true
 test_itself d = ap is_eq (tied_itself data_total d)
-
-fails : (b : Bool) → (b ≡ true → ⊥) → b ≡ false
-fails true apart = absurd (apart refl)
-fails false apart = refl
 
 not_told : (m : Pairs) (w : Watched) (v : Option TlValue) (x : TlValue) → option_map told_of v ≡ w.told → IfSome v (Answers w.view) → x ≡ plain m (key_of w.view) → v ≢ Some x → is_told m w ≡ false
 not_told m w None x told_eq ok is differs = ap (λ o. option_map_or (λ d. is_same d (told m w.view)) o false) (sym told_eq)
 not_told m w (Some u) x told_eq ok is differs =
     ap (λ o. option_map_or (λ d. is_same d (told m w.view)) o false) (sym told_eq)
-    ∙ fails (is_same (told_of u) (told m w.view)) (λ test.
+    ∙ not_so (is_same (told_of u) (told m w.view)) (λ test.
     let alike = same_from_test (told_of u) (told m w.view) test ∙ sym (ap told_of is ∙ told_is m w.view) in
     differs (ap Some (same_answer w.view u x ok (subst (Answers w.view) (sym is) (answers m w.view)) alike)))
 

@@ -13,6 +13,7 @@ use Rattle.std.proofs.Math.Seq.{take-suc, drop-cons}
 use Rattle.migrate_steps.specs.declared.migration.Sequence.{Sequence}
 use Rattle.migrate_seq.specs.Builds.{after_slash, inserted, by_id, doubled_after, doubled, have_rising_ids}
 use Rattle.migrate_seq.proofs.OrderLemmas.{both_true}
+use Rattle.rooms_val.proofs.Truths.{or_false, is_Less as less}
 
 none_after : (xs : List ℕ) (i : ℕ) → i < length xs → after_slash (drop i xs) [] ≡ None
 none_after [] i within = absurd (omega arith)
@@ -102,19 +103,10 @@ any_pushed : (test : Sequence → Bool) (before : List Sequence) (s : Sequence) 
 any_pushed test [] s = refl
 any_pushed test (t ∷ before) s = ap (λ b. test t || b) (any_pushed test before s) ∙ exchanged (test t) (test s) (list_any test before)
 
-less : (o : Ordering) → is_lt o ≡ true → o ≡ Less
-less Less is = refl
-less Equal is = cc
-less Greater is = cc
-
 turned : (o : Ordering) → is_lt o ≡ false → is_eq o ≡ false → is_lt (ordering_reverse o) ≡ true
 turned Less lt eq = cc
 turned Equal lt eq = cc
 turned Greater lt eq = refl
-
-neither : (a b : Bool) → (a || b) ≡ false → (a ≡ false) × (b ≡ false)
-neither true b is = cc
-neither false b is = (refl, is)
 
 -- of two ids that differ, the one that isn't less is greater
 greater : (x y : List ℕ) → is_lt (slice_cmp nat_cmp x y) ≡ false → bytes_eq y x ≡ false → is_lt (slice_cmp nat_cmp y x) ≡ true
@@ -142,7 +134,7 @@ rising_inserted : (s : Sequence) (ts : List Sequence) → have_rising_ids ts ≡
 rising_inserted s [] rises apart = refl
 rising_inserted s (t ∷ ts) rises apart =
     let parts = both_true (list_all (λ u. is_lt (slice_cmp nat_cmp t.id u.id)) ts) (have_rising_ids ts) rises in
-    let differ = neither (bytes_eq t.id s.id) (list_any (λ u. bytes_eq u.id s.id) ts) apart in
+    let differ = or_false (bytes_eq t.id s.id) (list_any (λ u. bytes_eq u.id s.id) ts) apart in
     elim (is_lt (slice_cmp nat_cmp s.id t.id)) as (λ b. is_lt (slice_cmp nat_cmp s.id t.id) ≡ b → have_rising_ids (cond b (s ∷ t ∷ ts) (t ∷ inserted s ts)) ≡ true) [
       | true ↦ λ low i. (low i && below_more s t ts low parts.0 i) && rises i
       | false ↦ λ high i. all_inserted (λ u. is_lt (slice_cmp nat_cmp t.id u.id)) s ts (greater s.id t.id high differ.0) parts.0 i && rising_inserted s ts parts.1 differ.1 i

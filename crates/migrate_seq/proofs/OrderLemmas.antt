@@ -5,6 +5,7 @@ use Rattle.std.specs.List.{list_any, remove}
 use Rattle.std.specs.Option.{option_map_or}
 use Rattle.std.proofs.lemmas.List.Sums.{sum_by-cons}
 use Rattle.migrate_seq.specs.Order.{picked, is_free, taken_and_left, in_order, never_taken, is_least_free, HasLeastFirst, IsOrderOf}
+use Rattle.rooms_val.proofs.Truths.{unnot_true}
 
 never_none : {Y : Type 0} (y : Y) → Some y ≡ None → ⊥
 never_none y is = cc
@@ -12,10 +13,6 @@ never_none y is = cc
 pub both_true : (a b : Bool) → (a && b) ≡ true → (a ≡ true) × (b ≡ true)
 both_true true b is = (refl, is)
 both_true false b is = cc
-
-unnot : (b : Bool) → not b ≡ true → b ≡ false
-unnot true is = cc
-unnot false is = refl
 
 never_both : (b : Bool) → ◌≡◌ {A = ℕ} (cond (b && false) 1 0) 0
 never_both true = refl
@@ -275,11 +272,11 @@ module _ {X : Type 0} (follows : X → X → Bool) where
     -- in a rising list nothing after an element comes before it, and the rest rises without it
     rising_at : (front : List X) (x : X) (back : List X) → is_rising before (front ++ x ∷ back) ≡ true
         → (count (λ y. before y x) back ≡ 0) × (is_rising before (front ++ back) ≡ true)
-    rising_at [] x back rises = let each = both_true _ _ rises in (none_counted (λ y. before y x) back (unnot _ each.0), each.1)
+    rising_at [] x back rises = let each = both_true _ _ rises in (none_counted (λ y. before y x) back (unnot_true _ each.0), each.1)
     rising_at (z ∷ front) x back rises =
         let each = both_true _ _ rises in
         let later = rising_at front x back each.1 in
-        let none = none_counted (λ y. before y z) (front ++ x ∷ back) (unnot _ each.0) in
+        let none = none_counted (λ y. before y z) (front ++ x ∷ back) (unnot_true _ each.0) in
         let whole = count-append (λ y. before y z) front (x ∷ back) in
         let rest = count-append (λ y. before y z) front back in
         let zero_is : count (λ y. before y z) (front ++ back) ≡ 0 = omega arith in
@@ -327,7 +324,7 @@ module _ {X : Type 0} (follows : X → X → Bool) where
           → is_least_free follows before (y ∷ ys) y ≡ true → before y x ≡ false
       not_before x y xs ys same least other =
           let test : X → Bool = λ z. is_free follows (x ∷ xs) z && before z x in
-          let none = none_counted test (x ∷ xs) (unnot _ (both_true (is_free follows (x ∷ xs) x) _ least).1) in
+          let none = none_counted test (x ∷ xs) (unnot_true _ (both_true (is_free follows (x ∷ xs) x) _ least).1) in
           let free = ap (λ f. f y) (free_same (x ∷ xs) (y ∷ ys) same) ∙ (both_true (is_free follows (y ∷ ys) y) _ other).0 in
           let counts = same test in
           let here : ◌≡◌ {A = ℕ} (cond (test y) 1 0) 0 = omega arith in

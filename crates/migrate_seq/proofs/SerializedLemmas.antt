@@ -1,5 +1,5 @@
 -- Versions and the maps of numbers that stand for them.
-use Rattle.std.proofs.Common.{◌≡◌, ℕ, pos, negsuc, Bool, true, false, ◌&&◌, List, [], ◌∷◌, Some, None, unwrap_or, zero, suc, ◌<◌, length, Less, Equal, Greater, refl, sym, ap, ◌∙◌, arith}
+use Rattle.std.proofs.Common.{◌≡◌, ℕ, pos, negsuc, Bool, true, ◌&&◌, List, [], ◌∷◌, Some, None, unwrap_or, zero, suc, ◌<◌, length, Less, Equal, Greater, refl, sym, ap, ◌∙◌, arith}
 use Rattle.std.specs.Prelude.{codes, slice_get}
 use Rattle.std.specs.FinMap.Entries as entries
 use Rattle.rooms_val.specs.Data.{Data, null, boolean, whole, text, list, map, Pairs, members_of, Members, no_members, member}
@@ -10,6 +10,7 @@ use Rattle.rooms_val.specs.declared.val.Val.{Val}
 use Rattle.rooms_val.specs.declared.val.Val.TheVariants as val
 use Rattle.rooms_val.proofs.DataLemmas.{pairs_of-members_of}
 use Rattle.migrate_seq.specs.Versions.{Versions, numbers_of, number_in, versions_in, is_number, are_numbers, schema_pairs, schema_with}
+use Rattle.migrate_seq.proofs.OrderLemmas.{both_true}
 
 number-back : (d : Data) → is_number d ≡ true → whole (pos (number_in d)) ≡ d
 number-back (whole (pos n)) is = refl
@@ -19,10 +20,6 @@ number-back (boolean b) is = cc
 number-back (text s) is = cc
 number-back (list ds) is = cc
 number-back (map ms) is = cc
-
-both_true : (a b : Bool) → (a && b) ≡ true → (a ≡ true) × (b ≡ true)
-both_true true b is = (refl, is)
-both_true false b is = cc
 
 -- a map of numbers stands for the versions in it
 pub numbers_of-versions_in : (ps : Pairs) → are_numbers ps ≡ true → numbers_of (versions_in ps) ≡ ps

@@ -20,11 +20,11 @@ module _ (f : Data → Data) (records after : Pairs) (done : List (List ℕ × V
       ∙ sym (seen-with_key f (pairs_view done) id (data_of r))
       ∙ ap (seen f) (sym (seen-with_key data_of done id r) ∙ ap pairs_view (put_last done id r left rising))
 
-each_after : (f g : Data → Data) (ps : Pairs) → seen g (seen f ps) ≡ seen (λ d. g (f d)) ps
+pub each_after : (f g : Data → Data) (ps : Pairs) → seen g (seen f ps) ≡ seen (λ d. g (f d)) ps
 each_after f g [] = refl
 each_after f g (p ∷ ps) = ap (λ rest. (p.0, g (f p.1)) ∷ rest) (each_after f g ps)
 
-each_itself : (ps : Pairs) → ps ≡ seen (λ d. d) ps
+pub each_itself : (ps : Pairs) → ps ≡ seen (λ d. d) ps
 each_itself [] = refl
 each_itself (p ∷ ps) = ap (λ rest. p ∷ rest) (each_itself ps)
 

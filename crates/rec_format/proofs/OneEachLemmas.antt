@@ -1,6 +1,7 @@
 -- Each value is that of one event at most, and of one header.
-use Rattle.std.proofs.Common.{◌≡◌, ℕ, ℤ, ◌<◌, ◌≤◌, List, [], ◌∷◌, Bool, false, Result, Ok, Err, IfOk, IfErr, MatchResult, Some, refl, sym, ap, ◌∙◌, arith}
+use Rattle.std.proofs.Common.{◌≡◌, ℕ, ℤ, ◌<◌, ◌≤◌, List, [], ◌∷◌, Bool, false, Result, Ok, Err, IfOk, IfErr, MatchResult, Some, refl, sym, ap, ◌∙◌}
 use Rattle.std.specs.Prelude.{pos}
+use Rattle.rooms_val.proofs.Truths.{le_lt_absurd, one_ok, ok_not_err}
 use Rattle.rooms_val.specs.Data as data'
 use Rattle.rooms_val.specs.Data.{Data, Items, Pairs, null, pairs_of}
 use Rattle.rooms_val.specs.View.{val_of}
@@ -16,7 +17,6 @@ use Rattle.view_vals.specs.Queries.{query_data}
 use Rattle.view_vals.specs.Views.{view_data}
 use Rattle.view_vals.proofs.AskingLemmas.{ask_the_same}
 use Rattle.view_vals.proofs.ViewsLemmas.{one_view}
-use Rattle.wire_msgs.proofs.ReadsLemmas.{ok_same, no_ok}
 use Rattle.rec_format.specs.Events.{event_fields, header_fields, header_val}
 use Rattle.rec_format.specs.Laws.{IsSame}
 use Rattle.rec_format.specs.Lines.{IsEvent, IsHeader, IsUnknown, RefusesLine, RefusesHeader, word_in}
@@ -178,9 +178,6 @@ one_header a b is =
     let fields = same_map (header_fields a) (header_fields b) is in
     λ i. record { version = number_in (second (fields i)) }
 
-too_long : {A : Type 0} (n m : ℕ) → n ≤ m → m < n → A
-too_long n m short long = absurd (omega (arith, short, long))
-
 no_unknown : (d : Data) (e : RecordedEvent) → d ≡ recorded_val e → ¬ IsUnknown d
 no_unknown d e is u =
     let it : Some u.0 ≡ Some (word_of (verb_of e)) = sym u.1 ∙ ap word_in is ∙ says e in
@@ -188,20 +185,20 @@ no_unknown d e is u =
 
 pub reads_event : (line : List ℕ) (r : Result RecordedEvent LineFault) → IfOk r (IsEvent line) → IfErr r (RefusesLine line)
     → (e : RecordedEvent) → IsEvent line e → MatchResult r (λ x. IsSame x e) (λ f. f ≡ line_fault.OutOfMemory)
-reads_event line (Ok x) found refused e is = one_event x e (ok_same _ _ _ found.0.1 is.0.1)
-reads_event line (Err line_fault.LineTooLong) found refused e is = too_long _ _ is.0.0 refused
-reads_event line (Err (line_fault.Val f)) found refused e is = no_ok _ _ _ is.0.1 refused.1
+reads_event line (Ok x) found refused e is = one_event x e (one_ok _ _ _ found.0.1 is.0.1)
+reads_event line (Err line_fault.LineTooLong) found refused e is = le_lt_absurd _ _ is.0.0 refused
+reads_event line (Err (line_fault.Val f)) found refused e is = ok_not_err _ _ _ is.0.1 refused.1
 reads_event line (Err line_fault.NoHeader) found refused e is = absurd refused
-reads_event line (Err line_fault.UnknownEvent) found refused e is = absurd (no_unknown refused.0 e (ok_same _ _ _ refused.1.1 is.0.1) refused.2)
-reads_event line (Err line_fault.Field) found refused e is = absurd (refused.3 e is.1 (ok_same _ _ _ refused.1.1 is.0.1))
+reads_event line (Err line_fault.UnknownEvent) found refused e is = absurd (no_unknown refused.0 e (one_ok _ _ _ refused.1.1 is.0.1) refused.2)
+reads_event line (Err line_fault.Field) found refused e is = absurd (refused.3 e is.1 (one_ok _ _ _ refused.1.1 is.0.1))
 reads_event line (Err line_fault.OutOfMemory) found refused e is = refl
 
 pub reads_header : (line : List ℕ) (r : Result Header LineFault) → IfOk r (IsHeader line) → IfErr r (RefusesHeader line)
     → (h : Header) → IsHeader line h → MatchResult r (λ x. x ≡ h) (λ f. f ≡ line_fault.OutOfMemory)
-reads_header line (Ok x) found refused h is = one_header x h (ok_same _ _ _ found.0.1 is.0.1)
-reads_header line (Err line_fault.LineTooLong) found refused h is = too_long _ _ is.0.0 refused
-reads_header line (Err (line_fault.Val f)) found refused h is = no_ok _ _ _ is.0.1 refused.1
-reads_header line (Err line_fault.NoHeader) found refused h is = absurd (refused.2 h is.1 (ok_same _ _ _ refused.1.1 is.0.1))
+reads_header line (Ok x) found refused h is = one_header x h (one_ok _ _ _ found.0.1 is.0.1)
+reads_header line (Err line_fault.LineTooLong) found refused h is = le_lt_absurd _ _ is.0.0 refused
+reads_header line (Err (line_fault.Val f)) found refused h is = ok_not_err _ _ _ is.0.1 refused.1
+reads_header line (Err line_fault.NoHeader) found refused h is = absurd (refused.2 h is.1 (one_ok _ _ _ refused.1.1 is.0.1))
 reads_header line (Err line_fault.UnknownEvent) found refused h is = absurd refused
 reads_header line (Err line_fault.Field) found refused h is = absurd refused
 reads_header line (Err line_fault.OutOfMemory) found refused h is = refl

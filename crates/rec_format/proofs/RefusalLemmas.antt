@@ -8,11 +8,6 @@ use Rattle.rec_format.specs.Rows.{RefusesRow}
 use Rattle.rec_format.specs.declared.fault.LineFault.{LineFault}
 use Rattle.rec_format.specs.declared.fault.LineFault.TheVariants.{LineTooLong, Val, NoHeader, UnknownEvent, Field, OutOfMemory}
 
--- a fact holds of every error
-pub any_err : {T E P : Type 0} (r : Result T E) → P → IfErr r (λ _. P)
-any_err (Ok x) p = tt
-any_err (Err e) p = p
-
 -- where a field is ill-formed, the row is refused for what the field shows
 pub ill_formed : {T P : Type 0} (r : Result T LineFault) → IsErrAnd r (λ e. e ≡ Field) → P → IfErr r (RefusesRow P)
 ill_formed (Ok x) is p = tt

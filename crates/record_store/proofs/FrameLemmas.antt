@@ -1,10 +1,10 @@
 -- What several changes of atoms leave, one after the other.
-use Rattle.std.proofs.Common.{◌≡◌, ◌≢◌, ◌⊎◌, inl, inr, ℕ, ◌<◌, suc, ◌+◌, ◌≤◌, le_trans, le_of_eq, Bool, true, false, cond, List, [], ◌∷◌, map, length, refl, sym, ap, subst, ◌∙◌, arith}
-use Rattle.std.specs.Prelude.{nat_lt, IfOk, OnOk, OnErr, Ok, Err}
+use Rattle.std.proofs.Common.{◌≡◌, ◌≢◌, ◌⊎◌, inl, inr, ℕ, ◌<◌, suc, ◌+◌, ◌≤◌, le_trans, le_of_eq, Bool, true, false, List, [], ◌∷◌, map, length, refl, sym, ap, subst, ◌∙◌, arith}
+use Rattle.std.specs.Prelude.{IfOk, OnOk, Ok, Err}
 use Rattle.std.specs.declared.result.Result.{Result}
 use Rattle.signal_rules.proofs.ValueLemmas.{stays}
 use Rattle.signal_values.specs.Seen as values
-use Rattle.signal_values.specs.Seen.{risen, top}
+use Rattle.signal_values.specs.Seen.{top}
 use Rattle.signal_txn.specs.declared.write.Write.{Write}
 use Rattle.signal_txn.specs.Journal.{joined}
 use Rattle.signal_txn.specs.LastWrites.{LastWrites}
@@ -18,6 +18,7 @@ use Rattle.tl_rules.specs.declared.value.TlValue.{TlValue}
 use Rattle.record_store.specs.Lists.{Board, atoms_of, Leads, IsNewest, ChangesOnly}
 use Rattle.record_store.proofs.LeadLemmas.{set_turned, set_told}
 use Rattle.record_store.proofs.NewestLemmas.{newest_joined, newest_noted}
+use Rattle.signal_txn.proofs.WrittenLemmas.{risen_above}
 
 pub in_turn : (P : TlKey → Type 0) (a b c : Board) → ChangesOnly P a b → ChangesOnly P b c → ChangesOnly P a c
 in_turn P a b c first next = record {
@@ -86,13 +87,10 @@ pub on_ok : {T E : Type 0} (r : Result T E) {P Q : Type 0} → (P → Q) → OnO
 on_ok (Ok x) f h = f h
 on_ok (Err e) f h = h
 
-not_fallen : (epoch : ℕ) → epoch ≤ risen epoch
-not_fallen epoch = elim (nat_lt epoch top) as (λ b. epoch ≤ cond b (epoch + 1) epoch) [ true ↦ omega arith | false ↦ omega arith ]
-
 -- what is undone doesn't lower the epoch
 pub epoch_after : (old new : values.Seen TlRules TlKey TlValue) → StaysUnlessChanged tl_meaning key_cmp old new → ((k : TlKey) → ChangesOnce tl_meaning key_cmp old new k) → old.epoch ≤ new.epoch
 epoch_after old new (inl same) once = omega (arith, same)
-epoch_after old new (inr other) once = omega (arith, not_fallen old.epoch, ((once other.0).differs other.1).0)
+epoch_after old new (inr other) once = omega (arith, risen_above old.epoch, ((once other.0).differs other.1).0)
 
 pub set_changes : (old new : Board) (key : TlKey) (v : TlValue) (changes : Bool) → IsSetIn tl_meaning key_cmp old new key v changes → ChangesOnly (λ k. k ≡ key) old new
 set_changes old new key v changes set =
@@ -111,7 +109,7 @@ set_changes old new key v changes set =
         | false ↦ λ is. ap (λ j. j.ring) (set.stays is)
       ]) refl;
       epoch = (elim changes as (λ b. changes ≡ b → old.graph.values.epoch ≤ new.graph.values.epoch) [
-        | true ↦ λ is. subst (λ e. old.graph.values.epoch ≤ e) (sym (set.set.differs is).1) (not_fallen old.graph.values.epoch)
+        | true ↦ λ is. subst (λ e. old.graph.values.epoch ≤ e) (sym (set.set.differs is).1) (risen_above old.graph.values.epoch)
         | false ↦ λ is. le_of_eq (sym (set.set.same is).1)
       ]) refl;
       apart = λ k fresh none. set.set.apart k fresh (none key refl);
@@ -136,7 +134,3 @@ set_changes old new key v changes set =
 pub if_ok : {T E : Type 0} (r : Result T E) {P Q : T → Type 0} → ((x : T) → P x → Q x) → IfOk r P → IfOk r Q
 if_ok (Ok x) f h = f x h
 if_ok (Err e) f h = h
-
-pub on_err : {T E : Type 0} (r : Result T E) {P : Type 0} → P → OnErr r P
-on_err (Ok x) h = tt
-on_err (Err e) h = h

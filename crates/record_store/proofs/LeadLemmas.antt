@@ -1,6 +1,5 @@
 -- Where writes lead.
-use Rattle.std.proofs.Common.{◌≡◌, ◌⊎◌, ℕ, suc, ◌+◌, ◌<◌, ◌≤◌, Bool, true, false, cond, List, [], ◌∷◌, ◌++◌, map, inl, inr, refl, sym, ap, subst, ◌∙◌, arith, lt-ltb}
-use Rattle.std.specs.Prelude.{nat_lt}
+use Rattle.std.proofs.Common.{◌≡◌, ◌⊎◌, ℕ, suc, ◌+◌, ◌<◌, ◌≤◌, Bool, true, false, List, [], ◌∷◌, ◌++◌, map, inl, inr, refl, sym, ap, subst, ◌∙◌, arith}
 use Rattle.rooms_val.specs.Data.{Pairs}
 use Rattle.signal_txn.specs.declared.write.Write.{Write}
 use Rattle.signal_txn.specs.Journal.{joined}
@@ -8,7 +7,7 @@ use Rattle.signal_txn.specs.LastWrites.{LastWrites, one_write}
 use Rattle.signal_txn.specs.Level.{Level, noted}
 use Rattle.signal_txn.specs.Seen.{IsSetIn}
 use Rattle.signal_txn.specs.Since.{diff_of, diffs_after}
-use Rattle.signal_values.specs.Seen.{risen, top}
+use Rattle.signal_values.specs.Seen.{top}
 use Rattle.tl_rules.specs.Exact.{key_cmp}
 use Rattle.tl_rules.specs.Meaning.{tl_meaning}
 use Rattle.tl_rules.specs.declared.key.TlKey.{TlKey}
@@ -17,6 +16,7 @@ use Rattle.record_store.specs.Lists.{Board, atoms_of, AreTurned, LeadsIn, Leads}
 use Rattle.signal_txn.specs.Turns.{AreInTurn}
 use Rattle.record_store.specs.Tells.{written, written_under, written_all}
 use Rattle.signal_txn.proofs.TurnLemmas.{one_in_turn, dropped_grows, diffs-followed, later_one, note_last, turned_noted, turned_joined}
+use Rattle.signal_txn.proofs.WrittenLemmas.{risen_below}
 
 pub written-append : (m : Pairs) (xs ys : List (TlKey × TlValue)) → written_all m (xs ++ ys) ≡ written_all (written_all m xs) ys
 written-append m [] ys = refl
@@ -36,13 +36,6 @@ leads_noted : (since : ℕ) (m n : Pairs) (key : TlKey) (v : TlValue) (levels : 
 leads_noted since m n key v [] leads = tt
 leads_noted since m n key v (level ∷ around) leads =
     subst (λ (last : LastWrites TlKey TlValue). last.dropped ≤ since → written_all m (diffs_after since last.writes) ≡ n) (sym (note_last key_cmp key v level)) leads
-
-risen_below : (epoch next : ℕ) → next ≡ risen epoch → next < top → next ≡ suc epoch
-risen_below epoch next is below = at (nat_lt epoch top) refl
-  where
-    at : (b : Bool) → nat_lt epoch top ≡ b → next ≡ suc epoch
-    at true e = let r : next ≡ epoch + 1 = is ∙ ap (λ b. cond b (epoch + 1) epoch) e in omega arith
-    at false e = let r : next ≡ epoch = is ∙ ap (λ b. cond b (epoch + 1) epoch) e in let yes_ : nat_lt epoch top ≡ true = ap (λ n. nat_lt n top) (sym r) ∙ lt-ltb next top below in cc
 
 module _ (old new : Board) (key : TlKey) (v : TlValue) (changes : Bool) (set : IsSetIn tl_meaning key_cmp old new key v changes) (below : new.graph.values.epoch < top) (turned : AreTurned old) where
   abbrev levels : List (Level TlKey TlValue)

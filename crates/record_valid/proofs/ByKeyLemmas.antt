@@ -6,6 +6,7 @@ use Rattle.std.specs.Option.{option_and_then}
 use Rattle.std.specs.Str.{bytes_eq}
 use Rattle.std.proofs.lemmas.Map.Text.{is_eq-slice_cmp}
 use Rattle.std.proofs.lemmas.Slice.Eq.{bytes_eq-Decides}
+use Rattle.rooms_val.proofs.Truths.{iff_same}
 use Rattle.rooms_val.specs.Data.{Data, null, boolean, whole, text, list, map, IsSound, Members, Pairs, members_of, pairs_of}
 use Rattle.rooms_val.specs.Kinds.{as_text, on_map}
 use Rattle.rooms_val.specs.View.{data_of}
@@ -66,11 +67,6 @@ none_lacking [] gs has = refl
 none_lacking (w ∷ ws) gs has =
     ap (λ b. not b || lacks ws gs) (has w (ap (λ b. b || is_listed ws w) ((bytes_eq-Decides w w).1 refl)))
     ∙ none_lacking ws gs (λ k later. has k (elim (bytes_eq w k) as (λ b. (b || is_listed ws k) ≡ true) [ true ↦ refl | false ↦ later ]))
-
-same_truth : (a b : Bool) → (a ≡ true → b ≡ true) → (b ≡ true → a ≡ true) → a ≡ b
-same_truth true b p q = sym (p refl)
-same_truth false true p q = q refl
-same_truth false false p q = refl
 
 unit : {V : Type 0} → V → Unit {0}
 unit v = tt
@@ -138,7 +134,7 @@ object_law t ps rising too =
     let keys : HasKeys (rows_of t) (members_of ps) → keys_of t ≡ keys_of ps = λ has.
     let missing = subst (λ es. lacks (keys_of es) (keys_of ps) ≡ false) rows (subst (λ qs. lacks (keys_of (table_of (rows_of t))) (keys_of qs) ≡ false) pairs has.none_missing) in
     let extra = subst (λ es. lacks (keys_of ps) (keys_of es) ≡ false) rows (subst (λ qs. lacks (keys_of qs) (keys_of (table_of (rows_of t))) ≡ false) pairs has.none_extra) in
-    same_keys t ps rising too (λ k. sym (listed_at t k) ∙ same_truth _ _ (passed_on (keys_of t) (keys_of ps) k missing) (passed_on (keys_of ps) (keys_of t) k extra) ∙ listed_at ps k) in (
+    same_keys t ps rising too (λ k. sym (listed_at t k) ∙ iff_same _ _ (passed_on (keys_of t) (keys_of ps) k missing) (passed_on (keys_of ps) (keys_of t) k extra) ∙ listed_at ps k) in (
       λ h k. subst (λ qs. FitAt (type_text qs) (value_at t k) (value_at ps k)) pairs ((fields_law _ t ps (keys h.0) rising too).0 h.1 k),
       λ h.
           let same = same_keys t ps rising too (λ k. fits_some _ _ _ (h k)) in

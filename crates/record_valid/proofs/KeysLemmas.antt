@@ -10,15 +10,14 @@ use Rattle.std.proofs.lemmas.Cmp.{nat_list_cmp_total}
 use Rattle.std.proofs.lemmas.Map.Text.{is_eq-slice_cmp}
 use Rattle.std.proofs.lemmas.Slice.Eq.{bytes_eq-Decides}
 use Rattle.rooms_val.specs.Maps.{order, keys_of}
-use Rattle.rooms_val.proofs.MapsLemmas.{first, second, both, less, ties_flip}
+use Rattle.rooms_val.proofs.MapsLemmas.{first, second, less, ties_flip}
+use Rattle.rooms_val.proofs.Truths.{and_holds}
 use Rattle.record_valid.specs.Parts.{is_listed, lacks, behind}
+use Rattle.index_keys.proofs.BetweenLemmas.{same_lists as same}
 
 -- texts of which one is below the other are not the same
 apart : (a b : List ℕ) → order a b ≡ Less → bytes_eq a b ≡ false
 apart a b below = sym (is_eq-slice_cmp a b) ∙ ap is_eq below
-
-same : (a b : List ℕ) → bytes_eq a b ≡ true → a ≡ b
-same a b h = (bytes_eq-Decides a b).0 h
 
 module _ {X : Type 0} where
   pub behind-at : (es : List (List ℕ × X)) (i : ℕ) (k : List ℕ) (e : List ℕ × X) → i < length es → e ≡ get_or es i e → behind (drop i es) k ≡ cond (bytes_eq e.0 k) (Some (drop (suc i) es)) (behind (drop (suc i) es) k)
@@ -104,11 +103,11 @@ above_listed (e ∷ es) k above = ap (λ b. b || is_listed (keys_of es) k) (sym 
     bytes_flip a b = sym (is_eq-slice_cmp a b) ∙ ties_flip a b ∙ is_eq-slice_cmp b a
 
 below_first : {X : Type 0} (k : List ℕ) (e : List ℕ × X) (es : List (List ℕ × X)) → order k e.0 ≡ Less → T (is_sorted order (e ∷ es)) → T (below_all order k (e ∷ es))
-below_first {X = X} k e es below rising = both _ _ (subst (λ o. T (is_lt o)) (sym below) tt) (below_rest es (first _ _ rising))
+below_first {X = X} k e es below rising = and_holds _ _ (subst (λ o. T (is_lt o)) (sym below) tt) (below_rest es (first _ _ rising))
   where
     below_rest : (fs : List (List ℕ × X)) → T (below_all order e.0 fs) → T (below_all order k fs)
     below_rest [] h = tt
-    below_rest (f ∷ fs) h = both _ _ (subst (λ o. T (is_lt o)) (sym (nat_list_cmp_total.trans k e.0 f.0 below (less _ (first _ _ h)))) tt) (below_rest fs (second _ _ h))
+    below_rest (f ∷ fs) h = and_holds _ _ (subst (λ o. T (is_lt o)) (sym (nat_list_cmp_total.trans k e.0 f.0 below (less _ (first _ _ h)))) tt) (below_rest fs (second _ _ h))
 
 module _ {W G : Type 0} where
   -- where no key is missing, there are as many or more, and one is too many exactly where there are more

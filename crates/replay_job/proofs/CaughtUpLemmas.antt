@@ -28,7 +28,7 @@ abbrev IsReached : Progress → Type 0
 IsReached None = Unit {0}
 IsReached (Some (schemas, viewed)) = ReachableWorld schemas viewed.world × HasToldAll schemas viewed
 
-the_next : (out more : List PrintedLine) (next last : Progress) → passed out next ≡ passed more last → last ≡ next
+pub the_next : (out more : List PrintedLine) (next last : Progress) → passed out next ≡ passed more last → last ≡ next
 the_next out more next last is = cc
 
 the_made : (outcome : Outcome EditFault) (a b : Stepped) → outcome ≡ Ok a → outcome ≡ Ok b → a ≡ b

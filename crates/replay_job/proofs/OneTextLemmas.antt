@@ -1,6 +1,7 @@
 -- A recording writes one text, and ends in one way.
-use Rattle.std.proofs.Common.{◌≡◌, ℕ, ◌+◌, ◌<◌, ◌≤◌, ◌&&◌, ◌⊎◌, inl, inr, Bool, true, false, List, [], ◌∷◌, length, map, filter, slice_get, Option, Some, None, Result, Ok, Err, refl, sym, ap, subst, ◌∙◌, arith}
+use Rattle.std.proofs.Common.{◌≡◌, ℕ, ◌+◌, ◌<◌, ◌≤◌, ◌&&◌, ◌⊎◌, inl, inr, Bool, true, false, List, [], ◌∷◌, length, map, filter, slice_get, Option, Some, None, Result, Ok, Err, refl, sym, ap, subst, ◌∙◌}
 use Rattle.std.specs.Option.{option_map_or}
+use Rattle.rooms_val.proofs.Truths.{le_lt_absurd}
 use Rattle.rooms_val.specs.Data.{Data, Pairs}
 use Rattle.rooms_val.specs.Json.{value_of}
 use Rattle.rooms_val.specs.declared.fault.ValFault.{ValFault}
@@ -47,9 +48,6 @@ the_val_fault r a b one other = cc
 no_val : (r : Result Data ValFault) (d : Data) (f : ValFault) → r ≡ Ok d → r ≡ Err f → ⊥
 no_val r d f one other = cc
 
-too_long : {A : Type 0} (n m : ℕ) → n ≤ m → m < n → A
-too_long n m short far = absurd (omega (arith, short, far))
-
 -- why a line is refused: it is too long, no value, or a value that has a fault
 data Cause : Type 0 where
   long : Cause
@@ -71,12 +69,12 @@ module _ (Of : Data → LineFault → Type 0) (line : List ℕ) where
   -- where a value has one fault at most, a line has one cause at most
   one_cause : ((d : Data) (f g : LineFault) → Of d f → Of d g → f ≡ g) → (a b : Cause) → HasCause a → HasCause b → a ≡ b
   one_cause one long long h k = refl
-  one_cause one long (bad f) h k = too_long (length line) LONGEST_LINE k.0 h
-  one_cause one long (said f) h k = too_long (length line) LONGEST_LINE k.1.0 h
-  one_cause one (bad e) long h k = too_long (length line) LONGEST_LINE h.0 k
+  one_cause one long (bad f) h k = le_lt_absurd (length line) LONGEST_LINE k.0 h
+  one_cause one long (said f) h k = le_lt_absurd (length line) LONGEST_LINE k.1.0 h
+  one_cause one (bad e) long h k = le_lt_absurd (length line) LONGEST_LINE h.0 k
   one_cause one (bad e) (bad f) h k = ap bad (the_val_fault (value_of line) e f h.1 k.1)
   one_cause one (bad e) (said f) h k = absurd (no_val (value_of line) k.0 e k.1.1 h.1)
-  one_cause one (said e) long h k = too_long (length line) LONGEST_LINE h.1.0 k
+  one_cause one (said e) long h k = le_lt_absurd (length line) LONGEST_LINE h.1.0 k
   one_cause one (said e) (bad f) h k = absurd (no_val (value_of line) h.0 f h.1.1 k.1)
   one_cause one (said e) (said f) h k = ap said (one k.0 e f (subst (λ d. Of d e) (the_val (value_of line) h.0 k.0 h.1.1 k.1.1) h.2) k.2)
 

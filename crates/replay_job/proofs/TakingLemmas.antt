@@ -1,5 +1,5 @@
 -- What the code's replies say of a line and of its event.
-use Rattle.std.proofs.Common.{◌≡◌, ◌≢◌, ℕ, ◌<◌, nat_le, List, [], length, Bool, true, false, ◌&&◌, Option, Some, None, Result, Ok, Err, IfOk, refl, sym, ap, subst, inl, inr, arith}
+use Rattle.std.proofs.Common.{◌≡◌, ◌≢◌, ℕ, ◌<◌, nat_le, List, [], length, Bool, true, false, ◌&&◌, Option, Some, None, Ok, Err, refl, sym, ap, subst, inl, inr, arith}
 use Rattle.std.specs.Prelude.{codes}
 use Rattle.std.specs.Global.{Vec}
 use Rattle.std.proofs.lemmas.Bool.Decides.{nat_tests}
@@ -27,11 +27,6 @@ use Rattle.replay_job.specs.Taking.{Progress, refused, passed, ended, is_end, is
 use Rattle.replay_job.specs.Replies.{Reads, Becomes, BecomesHeader, BecomesEvent, BecomesOf}
 use Rattle.replay_job.specs.declared.replay.Reply.{Reply}
 use Rattle.replay_job.specs.declared.replay.Reply.TheVariants.{Refused, Wrote, Ended}
-
--- what follows of each value follows of the value that there is
-pub if_ok : {T E : Type 0} (r : Result T E) (P Q : T → Type 0) → IfOk r P → ((x : T) → P x → Q x) → IfOk r Q
-if_ok (Ok x) P Q said follows = follows x said
-if_ok (Err e) P Q said follows = tt
 
 -- a proper event can be given to a world
 pub playable : (e : RecordedEvent) → IsProperRecorded e → IsPlayable e

@@ -48,6 +48,3 @@ admitted-beside s m part id c rising admitted stands q d is =
 
 pub own_standing : (s : SchemaTree) (id : List ℕ) (own : Option RecordOpTree) (c : RecordOpTree) → own ≡ Some c → option_map_or (λ e. is_put_admitted (decided s) id e) own true ≡ true → is_put_admitted (decided s) id c ≡ true
 own_standing s id own c is puts = subst (λ o. option_map_or (λ e. is_put_admitted (decided s) id e) o true ≡ true) is puts
-
-pub some_is : {X : Type 0} (x y : X) → ◌≡◌ {A = Option X} (Some x) (Some y) → x ≡ y
-some_is x y is = (cc)

@@ -4,10 +4,11 @@ use Rattle.std.specs.Ordering.{is_lt}
 use Rattle.std.specs.FinMap.Entries.{is_sorted, below_all}
 use Rattle.std.proofs.lemmas.List.{map-append}
 use Rattle.std.proofs.lemmas.List.Folds.{list_all-append}
+use Rattle.rooms_val.proofs.Truths.{and_true, and_left as left, and_right, and_holds}
 use Rattle.rooms_val.specs.Data.{Data, Pairs}
 use Rattle.rooms_val.specs.Maps.{order, ties, AreRising, value_at, set_at, seen}
 use Rattle.rooms_val.specs.declared.val.Val.{Val}
-use Rattle.rooms_val.proofs.MapsLemmas.{first, second, both as both_T, rising_on, rising_without, ties_same, order_itself, none_later, rising_rest}
+use Rattle.rooms_val.proofs.MapsLemmas.{first, second, rising_on, rising_without, ties_same, order_itself, none_later, rising_rest}
 use Rattle.field_ops.specs.Patched.{raw}
 use Rattle.field_ops.specs.RecordOps.{RecordOpTree, put, patch, remove, RecordOps}
 use Rattle.field_ops.specs.View.{maybe_data}
@@ -17,7 +18,6 @@ use Rattle.schema_core.specs.Admits.{is_admitted, is_document}
 use Rattle.schema_core.specs.Tree.{SchemaTree}
 use Rattle.room_model.specs.Accepting.{is_accepted, is_fit, is_put_admitted, tried_op, accept_ops}
 use Rattle.room_model.specs.Schemas.{Plan}
-use Rattle.room_model.proofs.ActingLemmas.{both, left, right}
 use Rattle.room_model.proofs.LookUpLemmas.{unnamed}
 use Rattle.room_schemas.specs.Decided.{decided}
 use Rattle.room_accept.specs.Parts.{IsPart, are_documents, is_taken_in, with_tried}
@@ -27,10 +27,6 @@ use Rattle.room_accept.specs.declared.part.Part.{Part}
 use Rattle.room_accept.specs.declared.size.DocumentSize.{DocumentSize}
 use Rattle.room_accept.proofs.AdmittedLemmas.{admitted-set_at, left_standing}
 use Rattle.room_accept.proofs.SizeLemmas.{size-set_at}
-
-pub and_false : (a : Bool) → a && false ≡ false
-and_false true = refl
-and_false false = refl
 
 module _ (id : List ℕ) (rest : RecordOps) where
   -- ids rise whatever is done to one
@@ -63,12 +59,12 @@ rising-other part id c d rest rising = subst T (sorted-other id rest part c d) r
 
 below-front : (x : List ℕ) (part more : RecordOps) → T (below_all order x (part ++ more)) → T (below_all order x part)
 below-front x [] more h = tt
-below-front x (e ∷ part) more h = both_T _ _ (first _ _ h) (below-front x part more (second _ _ h))
+below-front x (e ∷ part) more h = and_holds _ _ (first _ _ h) (below-front x part more (second _ _ h))
 
 -- ids that rise do so up to any place
 rising_front : (part more : RecordOps) → AreRising (part ++ more) → AreRising part
 rising_front [] more h = tt
-rising_front (e ∷ part) more h = both_T _ _ (below-front e.0 part more (first _ _ h)) (rising_front part more (second _ _ h))
+rising_front (e ∷ part) more h = and_holds _ _ (below-front e.0 part more (first _ _ h)) (rising_front part more (second _ _ h))
 
 -- so do those up to an operation, and that
 pub rising_up_to : (part : RecordOps) (e : List ℕ × RecordOpTree) (rest : RecordOps) → AreRising (part ++ e ∷ rest) → AreRising (part ++ e ∷ [])
@@ -96,7 +92,7 @@ acted admits id c r after is =
 
 pub fit_documents : (s : SchemaTree) (plan : Plan) (diff : RecordOps) → is_fit (decided s) plan diff ≡ true → are_documents s diff ≡ true
 fit_documents s plan [] fit = refl
-fit_documents s plan (c ∷ diff) fit = both _ _ (left _ _ (left _ _ fit)) (fit_documents s plan diff (right _ _ fit))
+fit_documents s plan (c ∷ diff) fit = and_true _ _ (left _ _ (left _ _ fit)) (fit_documents s plan diff (and_right _ _ fit))
 
 module _ (s : SchemaTree) (m : Pairs) (m-rises : AreRising m) (part : RecordOps) (size : DocumentSize) (is : size ≡ size_of (is_document s) (fold_raw m part)) (id : List ℕ) (document : is_document s id ≡ true) (absent : value_at part id ≡ None) where
   -- the records of the beginning stand under the ids that weren't named
@@ -157,8 +153,8 @@ part_pushed s m part next id c left-data m-rises was document rising taken leave
           ∙ ap (left_under m) (sym diff);
       size = size ∙ sym (size_pushed s m m-rises part.diff part.size was.size id document absent c) ∙ ap (λ d. size_of (is_document s) (fold_raw m d)) (sym diff);
       changing = ap (each_changes m) diff ∙ list_all-append (λ d. is_some (raw d.1 (value_at m d.0)) || is_some (value_at m d.0)) part.diff ((id, c) ∷ [])
-          ∙ both _ _ was.changing (both _ _ (acting_changes (is_admitted s) id c r (left _ _ (left _ _ taken))) refl);
+          ∙ and_true _ _ was.changing (and_true _ _ (acting_changes (is_admitted s) id c r (left _ _ (left _ _ taken))) refl);
       admitted = subst (AreAdmitted s) (sym (ap (fold_raw m) diff ∙ pushed s m m-rises part.diff part.size was.size id document absent c))
-          (admitted-set_at s (fold_raw m part.diff) id (raw c r) was.admitted (left_standing s id c r (left _ _ (left _ _ taken)) (right _ _ (left _ _ taken))));
+          (admitted-set_at s (fold_raw m part.diff) id (raw c r) was.admitted (left_standing s id c r (left _ _ (left _ _ taken)) (and_right _ _ (left _ _ taken))));
       rising = subst AreRising (sym diff) rising;
     }

@@ -21,7 +21,8 @@ use Rattle.doc_model.proofs.MergeLemmas.{at-fold_raw, rising-fold_raw}
 use Rattle.schema_core.specs.Admits.{is_admitted, is_document}
 use Rattle.schema_core.specs.Tree.{SchemaTree}
 use Rattle.room_model.specs.Schemas.{records_with}
-use Rattle.room_model.proofs.ActingLemmas.{all-with_key, left, right, differ}
+use Rattle.room_model.proofs.ActingLemmas.{all-with_key, differ}
+use Rattle.rooms_val.proofs.Truths.{and_left as left, and_right}
 use Rattle.room_model.proofs.LookUpLemmas.{none_at, rising-mapped, rising-filter}
 use Rattle.room_model.specs.Accepting.{is_put_admitted}
 use Rattle.room_schemas.specs.Decided.{decided, is_presence}
@@ -63,7 +64,7 @@ module _ (test : List ℕ → Bool) where
 pub presences_kept : (s : SchemaTree) (m : Pairs) (part : RecordOps) → are_documents s part ≡ true → records_with (is_presence s) (fold_raw m part) ≡ records_with (is_presence s) m
 presences_kept s m [] documents = refl
 presences_kept s m (c ∷ part) documents =
-    presences_kept s (set_at m c.0 (raw c.1 (value_at m c.0))) part (right _ _ documents)
+    presences_kept s (set_at m c.0 (raw c.1 (value_at m c.0))) part (and_right _ _ documents)
     ∙ kept-set_at (is_presence s) m c.0 (raw c.1 (value_at m c.0)) (document_apart s c.0 (left _ _ documents))
 
 at_most_one : (o : Option Data) → adds (λ d. 1) o ≤ 1

@@ -8,7 +8,7 @@ use Rattle.rooms_val.specs.Maps.{order, ties, AreRising, value_at, with_key, wit
 use Rattle.rooms_val.specs.Weight.{weight}
 use Rattle.rooms_val.proofs.MapsLemmas.{ties_same, by_tie, none_later, rising_rest, rising-set_at, at-set_at, same_pairs, taken_lower, without_absent}
 use Rattle.room_model.specs.Schemas.{records_with}
-use Rattle.room_model.proofs.ActingLemmas.{left, right}
+use Rattle.rooms_val.proofs.Truths.{and_left, and_right}
 use Rattle.room_model.proofs.LookUpLemmas.{at-filter, rising-filter}
 use Rattle.room_accept.specs.Measures.{held, weight_of}
 use Rattle.room_accept.specs.Sizes.{size_of, size_after, is_within}
@@ -123,6 +123,6 @@ exact n h most is low within = grind (arith, nat_tests)
 -- and a held size within the limits is the size itself
 pub exact_within : (size held : DocumentSize) → held.count ≡ min size.count (2 ^ 64 - 1) → held.weight ≡ min size.weight (2 ^ 64 - 1) → is_within held ≡ true → held ≡ size
 exact_within size held count weight within =
-    let few : held.count ≡ size.count = exact size.count held.count 16384 count (omega arith) (left _ _ within) in
-    let light : held.weight ≡ size.weight = exact size.weight held.weight 2097152 weight (omega arith) (right _ _ within) in
+    let few : held.count ≡ size.count = exact size.count held.count 16384 count (omega arith) (and_left _ _ within) in
+    let light : held.weight ≡ size.weight = exact size.weight held.weight 2097152 weight (omega arith) (and_right _ _ within) in
     λ i. record { count = few i; weight = light i }

@@ -1,5 +1,5 @@
 -- What a call of a room needs, and what a message of a session makes of the room.
-use Rattle.std.proofs.Common.{◌≡◌, ℕ, suc, ◌≤◌, nat_lt, nat_le, Bool, true, false, cond, List, length, slice_get, Option, Some, None, option_map, is_some, Ok, Err, Result, refl, ap, subst, ◌∙◌, arith}
+use Rattle.std.proofs.Common.{◌≡◌, ℕ, suc, ◌≤◌, nat_lt, nat_le, Bool, true, false, cond, List, length, slice_get, Some, None, Ok, Err, Result, refl, ap, subst, ◌∙◌, arith}
 use Rattle.std.specs.Option.{option_map_or}
 use Rattle.std.proofs.lemmas.Option.{same_Some}
 use Rattle.migrate_seq.specs.Versions.{Versions}
@@ -15,11 +15,7 @@ use Rattle.sync_msgs.specs.declared.client_message.ClientMessage.{ClientMessage}
 use Rattle.sync_msgs.specs.declared.client_message.ClientMessage.TheVariants as message
 use Rattle.sync_msgs.specs.declared.end_reason.EndReason.{EndReason}
 use Rattle.sync_msgs.specs.declared.end_reason.EndReason.TheVariants.{RoomFull, InvalidRecord}
-
--- what an option of a call says
-pub mapped : {X Y : Type 0} (f : X → Y) (o : Option X) (y : Y) → option_map f o ≡ Some y → (x : X) × (o ≡ Some x) × (f x ≡ y)
-mapped f None y is = absurd (cc)
-mapped f (Some x) y is = (x, refl, same_Some (f x) y is)
+use Rattle.rooms_val.proofs.Truths.{mapped}
 
 -- the session of a number is there
 pub record IsThere (room : Room) (n : ℕ) (s : Session) : Type 0 where
@@ -33,11 +29,6 @@ there room n s is =
       | true ↦ λ left same. absurd (cc)
       | false ↦ λ left same. let it : h.0 ≡ s = same_Some h.0 s same in record { at = h.1 ∙ ap Some it; stays = subst (λ t. has_left t.phase ≡ false) it left }
     ] refl h.2
-
--- what a look-up finds, if it finds anything
-pub found : {X : Type 0} (o : Option X) → is_some o ≡ true → (x : X) × (o ≡ Some x)
-found None is = absurd (cc)
-found (Some x) is = (x, refl)
 
 one_more : (b : Bool) (k : ℕ) → cond b (suc k) k ≤ suc k
 one_more true k = omega arith

@@ -24,7 +24,8 @@ use Rattle.room_events.specs.Told.{told_up_to}
 use Rattle.room_events.specs.declared.room_event.RoomEvent.{RoomEvent}
 use Rattle.room_events.specs.declared.room_event.RoomEvent.TheVariants.{Drain}
 use Rattle.room_events.proofs.FollowLemmas.{ByPhase, At, left_answered, where_it_is}
-use Rattle.room_events.proofs.CallLemmas.{mapped, found, there}
+use Rattle.room_events.proofs.CallLemmas.{there}
+use Rattle.rooms_val.proofs.Truths.{mapped, some_there}
 use Rattle.room_events.proofs.LegalLemmas.{middle}
 use Rattle.sync_msgs.specs.declared.data_event.Action.TheVariants.{Rebase}
 use Rattle.sync_msgs.specs.declared.data_event.DataEvent.{DataEvent}
@@ -202,7 +203,7 @@ module _ (schemas : Schemas) (lawful : AreLawful schemas) (last : ℕ) (n : ℕ)
   given_at message legal =
       let room = state_of schemas last before in
       let m = middle schemas last before after (Drain n (Some (out.Message message))) legal in
-      let h = found (session_at n room) m.1.0 in
+      let h = some_there (session_at n room) m.1.0 in
       let it = there room n h.0 h.1 in
       let given = mapped (λ given. given.out) (next_for schemas room n) (out.Message message) m.1.1 in
       let next : next_in schemas room n h.0 h.0.phase ≡ Some given.0 = sym (ap (option_and_then (λ session. next_in schemas room n session session.phase)) h.1) ∙ given.1 in

@@ -13,6 +13,7 @@ use Rattle.room_model.proofs.ClosingLemmas.{by_number, set_at_place as set_there
 use Rattle.room_model.specs.Reachable.{is_over}
 use Rattle.sync_msgs.specs.declared.client_message.ClientMessage.{ClientMessage}
 use Rattle.sync_msgs.specs.declared.end_reason.EndReason.TheVariants.{Slow}
+use Rattle.rooms_val.proofs.Truths.{unnot_true, unnot_false}
 
 -- a session is in its room
 abbrev pub is_here : Session → Bool
@@ -202,27 +203,19 @@ here_is (x ∷ xs) (suc n) s at stays = here_is xs n s at stays
 pub there_here : (room : Room) (n : ℕ) (s : Session) → IsThere room n s → slice_get (here room) n ≡ Some true
 there_here room n s it = here_is room.sessions n s it.at it.stays
 
-stays_so : (b : Bool) → not b ≡ true → b ≡ false
-stays_so true is = absurd (cc)
-stays_so false is = refl
-
 here_found : (xs : List Session) (n : ℕ) → slice_get (map is_here xs) n ≡ Some true → (s : Session) × (option_and_then unless_left (slice_get xs n) ≡ Some s)
 here_found [] n is = absurd (cc)
 here_found (x ∷ xs) zero is =
-    let stays = stays_so (has_left x.phase) (same_Some (is_here x) true is) in
+    let stays = unnot_true (has_left x.phase) (same_Some (is_here x) true is) in
     (x, ap (λ b. cond b None (Some x)) stays)
 here_found (x ∷ xs) (suc n) is = here_found xs n is
 
 pub here_there : (room : Room) (n : ℕ) → slice_get (here room) n ≡ Some true → (s : Session) × (session_at n room ≡ Some s)
 here_there room n is = here_found room.sessions n is
 
-left_so : (b : Bool) → not b ≡ false → b ≡ true
-left_so true is = refl
-left_so false is = absurd (cc)
-
 here_lost : (xs : List Session) (n : ℕ) → slice_get (map is_here xs) n ≡ Some false → option_and_then unless_left (slice_get xs n) ≡ None
 here_lost [] n is = refl
-here_lost (x ∷ xs) zero is = ap (λ b. cond b None (Some x)) (left_so (has_left x.phase) (same_Some (is_here x) false is))
+here_lost (x ∷ xs) zero is = ap (λ b. cond b None (Some x)) (unnot_false (has_left x.phase) (same_Some (is_here x) false is))
 here_lost (x ∷ xs) (suc n) is = here_lost xs n is
 
 pub here_gone : (room : Room) (n : ℕ) → slice_get (here room) n ≡ Some false → session_at n room ≡ None

@@ -12,7 +12,8 @@ use Rattle.room_events.specs.Events.{events_of, number_of, is_enter, is_leave, h
 use Rattle.room_events.specs.Legal.{CanHappen, room_after, Happens, AllHappen, Legal, state_of}
 use Rattle.room_events.specs.declared.room_event.RoomEvent.{RoomEvent}
 use Rattle.room_events.specs.declared.room_event.RoomEvent.TheVariants.{Enter, Message, Drain, Leave}
-use Rattle.room_events.proofs.CallLemmas.{mapped, found, there, message_receives}
+use Rattle.room_events.proofs.CallLemmas.{there, message_receives}
+use Rattle.rooms_val.proofs.Truths.{mapped, some_there}
 use Rattle.room_events.proofs.HereLemmas.{here, is_here, with_here, received_later, given_here, IsStill, left_here, entered_here, there_here, here_there, here_gone}
 use Rattle.room_events.proofs.RunLemmas.{here_after, Fits, Runs, own_after, OwnRuns, runs_own, none_own, enters_first, leaves_last, there_own, gone_own, count_all, count_true, count_there, count_map}
 
@@ -71,7 +72,7 @@ module _ (schemas : Schemas) where
         | Some given ↦ λ is same. subst (Reachable schemas) same (drained number given room reach is)
       ] refl one.1
   reached room (Leave number) after reach one =
-      let h = found (session_at number room) one.0 in
+      let h = some_there (session_at number room) one.0 in
       let leaves = ap (option_map (λ session. leave number session room)) h.1 in
       subst (Reachable schemas) (sym (ap (λ o. unwrap_or o room) leaves) ∙ one.1) (left number room (leave number h.0 room) reach leaves)
 
@@ -96,7 +97,7 @@ module _ (schemas : Schemas) where
         ap here (sym same) ∙ (received_later schemas room number k.0 k.1.at k.1.stays said h.0.room k.2).in_it,
       )
   happens_here room (Drain number out) after one =
-      let h = found (session_at number room) one.0.0 in
+      let h = some_there (session_at number room) one.0.0 in
       let it = there room number h.0 h.1 in
       let next : next_for schemas room number ≡ next_in schemas room number h.0 h.0.phase = ap (option_and_then (λ session. next_in schemas room number session session.phase)) h.1 in
       let still = given_here schemas room number h.0 it.at it.stays h.0.phase refl in (
@@ -108,7 +109,7 @@ module _ (schemas : Schemas) where
         ] next still,
       )
   happens_here room (Leave number) after one =
-      let h = found (session_at number room) one.0 in
+      let h = some_there (session_at number room) one.0 in
       let it = there room number h.0 h.1 in
       let leaves = ap (option_map (λ session. leave number session room)) h.1 in
       let same : leave number h.0 room ≡ after = sym (ap (λ o. unwrap_or o room) leaves) ∙ one.1 in

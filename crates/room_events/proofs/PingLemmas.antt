@@ -14,7 +14,8 @@ use Rattle.room_events.specs.Legal.{room_after, Happens, AllHappen, Legal, state
 use Rattle.room_events.specs.Told.{is_ping, is_pong}
 use Rattle.room_events.specs.declared.room_event.RoomEvent.{RoomEvent}
 use Rattle.room_events.specs.declared.room_event.RoomEvent.TheVariants.{Enter, Message, Drain, Leave}
-use Rattle.room_events.proofs.CallLemmas.{mapped, found, there, Receives, ignores, asks_now, pings_now, refuses, takes_now, message_receives}
+use Rattle.room_events.proofs.CallLemmas.{there, Receives, ignores, asks_now, pings_now, refuses, takes_now, message_receives}
+use Rattle.rooms_val.proofs.Truths.{mapped, some_there}
 use Rattle.sync_msgs.specs.declared.client_message.ClientMessage.{ClientMessage}
 use Rattle.sync_msgs.specs.declared.end_reason.EndReason.TheVariants.{Slow}
 
@@ -150,7 +151,7 @@ module _ (schemas : Schemas) (n : ℕ) (room : Room) where
       let now : h.0.room ≡ room_after schemas room (Message number said replied) = sym (ap (λ o. option_map_or (λ replied. replied.room) o room) h.1) in
       subst (λ r. Pays n room (Message number said replied) r (number == n)) now (received_pays number k.0 k.1.at said replied h.0.room k.2 (number == n) refl)
   happens_pays (Drain number given) after one =
-      let h = found (session_at number room) one.0.0 in
+      let h = some_there (session_at number room) one.0.0 in
       let it = there room number h.0 h.1 in
       let next : next_for schemas room number ≡ next_in schemas room number h.0 h.0.phase = ap (option_and_then (λ session. next_in schemas room number session session.phase)) h.1 in
       let P : Type 0 = Pays n room (Drain number given) (room_after schemas room (Drain number given)) (number == n) in
@@ -167,7 +168,7 @@ module _ (schemas : Schemas) (n : ℕ) (room : Room) where
             (subst (λ o. Pays n room (Drain number o) (after_drain room number next) (number == n)) said (drained_pays number h.0 it.at next pays))
       ] next (given_pays number h.0 it.at h.0.phase refl)
   happens_pays (Leave number) after one =
-      let h = found (session_at number room) one.0 in
+      let h = some_there (session_at number room) one.0 in
       let it = there room number h.0 h.1 in
       let now : leave number h.0 room ≡ room_after schemas room (Leave number) = sym (ap (λ o. unwrap_or o room) (ap (option_map (λ session. leave number session room)) h.1)) in
       subst (λ r. Pays n room (Leave number) r (number == n)) now

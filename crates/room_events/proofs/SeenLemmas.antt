@@ -19,7 +19,8 @@ use Rattle.room_events.specs.Events.{session_of}
 use Rattle.room_events.specs.Legal.{room_after, Happens}
 use Rattle.room_events.specs.declared.room_event.RoomEvent.{RoomEvent}
 use Rattle.room_events.specs.declared.room_event.RoomEvent.TheVariants.{Enter, Message, Drain, Leave}
-use Rattle.room_events.proofs.CallLemmas.{mapped, found, there, Receives, ignores, asks_now, pings_now, refuses, takes_now, message_receives}
+use Rattle.room_events.proofs.CallLemmas.{there, Receives, ignores, asks_now, pings_now, refuses, takes_now, message_receives}
+use Rattle.rooms_val.proofs.Truths.{mapped, some_there}
 use Rattle.room_events.proofs.RunLemmas.{added_last, added_elsewhere}
 use Rattle.migrate_seq.specs.Versions.{Versions}
 use Rattle.sync_msgs.specs.declared.client_message.ClientMessage.{ClientMessage}
@@ -261,7 +262,7 @@ module _ (schemas : Schemas) (room : Room) where
       (λ is. subst (λ k. Seen schemas k room (Message number said replied) h.0.room) is (received_own number k.0 k.1.at said replied h.0.room k.2))
       (λ apart. passes (Message number said replied) h.0.room apart (received_still n number k.0 k.1.at apart said h.0.room k.2)))
   seen_here n (Drain number given) after one =
-      let h = found (session_at number room) one.0.0 in
+      let h = some_there (session_at number room) one.0.0 in
       let it = there room number h.0 h.1 in
       let next : next_for schemas room number ≡ next_in schemas room number h.0 h.0.phase = ap (option_and_then (λ session. next_in schemas room number session session.phase)) h.1 in
       elim (next_in schemas room number h.0 h.0.phase) as (λ o. next_for schemas room number ≡ o → OwnGiven number h.0 it.at o → Seen schemas n room (Drain number given) (room_after schemas room (Drain number given))) [
@@ -281,7 +282,7 @@ module _ (schemas : Schemas) (room : Room) where
             (λ apart. passes (Drain number given) (after_drain room number next) apart (else_still room number h.0 next.after it.at n (λ e. apart (sym e)))))
       ] next (given_own number h.0 it.at h.0.phase refl)
   seen_here n (Leave number) after one =
-      let h = found (session_at number room) one.0 in
+      let h = some_there (session_at number room) one.0 in
       let it = there room number h.0 h.1 in
       let now : leave number h.0 room ≡ room_after schemas room (Leave number) = sym (ap (λ o. unwrap_or o room) (ap (option_map (λ session. leave number session room)) h.1)) in
       subst (Seen schemas n room (Leave number)) now

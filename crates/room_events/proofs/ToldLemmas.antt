@@ -20,7 +20,8 @@ use Rattle.room_events.specs.Told.{clock_of, told_by, told_after, told_up_to, Ea
 use Rattle.room_events.specs.declared.room_event.RoomEvent.{RoomEvent}
 use Rattle.room_events.specs.declared.room_event.RoomEvent.TheVariants.{Enter, Message, Drain, Leave}
 use Rattle.room_events.proofs.HereLemmas.{live_of, live_at, live_set, live_elsewhere, live_now, received_later, left_lives, entered_lives}
-use Rattle.room_events.proofs.CallLemmas.{mapped, found, there, message_receives}
+use Rattle.room_events.proofs.CallLemmas.{there, message_receives}
+use Rattle.rooms_val.proofs.Truths.{mapped, some_there}
 use Rattle.room_events.proofs.LegalLemmas.{middle}
 use Rattle.sync_msgs.specs.declared.data_event.Action.TheVariants.{Rebase}
 use Rattle.sync_msgs.specs.declared.data_event.DataEvent.{DataEvent}
@@ -151,13 +152,13 @@ module _ (schemas : Schemas) (n : ℕ) where
       told_kept told (Message number said replied) (live_at n after) refl
       (λ x is. so x ((received_later schemas room number k.0 k.1.at k.1.stays said h.0.room k.2).lives n x (ap (live_at n) same ∙ is)))
   happens_told told room (Leave number) after one so =
-      let h = found (session_at number room) one.0 in
+      let h = some_there (session_at number room) one.0 in
       let it = there room number h.0 h.1 in
       let leaves = ap (option_map (λ session. leave number session room)) h.1 in
       let same : leave number h.0 room ≡ after = sym (ap (λ o. unwrap_or o room) leaves) ∙ one.1 in
       told_kept told (Leave number) (live_at n after) refl (λ x is. so x (left_lives schemas room number h.0 it.at it.stays n x (ap (live_at n) same ∙ is)))
   happens_told told room (Drain number given) after one so =
-      let h = found (session_at number room) one.0.0 in
+      let h = some_there (session_at number room) one.0.0 in
       let it = there room number h.0 h.1 in
       let next : next_for schemas room number ≡ next_in schemas room number h.0 h.0.phase = ap (option_and_then (λ session. next_in schemas room number session session.phase)) h.1 in
       by_number (λ b. IsTold (cond b (told_by told given) told) (live_at n after)) number n
@@ -228,7 +229,7 @@ module _ (schemas : Schemas) where
   updates_from last before after n told legal =
       let room = state_of schemas last before in
       let m = middle schemas last before after (Drain n (Some (out.Message (reply.Data told)))) legal in
-      let h = found (session_at n room) m.1.0 in
+      let h = some_there (session_at n room) m.1.0 in
       let it = there room n h.0 h.1 in
       let given = mapped (λ given. given.out) (next_for schemas room n) (out.Message (reply.Data told)) m.1.1 in
       let next : next_in schemas room n h.0 h.0.phase ≡ Some given.0 = sym (ap (option_and_then (λ session. next_in schemas room n session session.phase)) h.1) ∙ given.1 in

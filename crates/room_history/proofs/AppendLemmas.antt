@@ -15,7 +15,8 @@ use Rattle.schema_core.specs.SchemaOf.{schema_tree}
 use Rattle.room_model.specs.Histories.{History, records_of}
 use Rattle.room_model.specs.Rooms.{removal}
 use Rattle.room_model.specs.Schemas.{presence_id, records_with}
-use Rattle.room_model.proofs.ActingLemmas.{differ, left as first, right as second, both}
+use Rattle.room_model.proofs.ActingLemmas.{differ}
+use Rattle.rooms_val.proofs.Truths.{and_left as first, and_right, and_true}
 use Rattle.room_model.proofs.HistoryLemmas.{filter_twice, at_most-filter}
 use Rattle.room_model.proofs.LookUpLemmas.{at-filter, rising-mapped}
 use Rattle.room_schemas.specs.Decided.{is_presence}
@@ -41,12 +42,12 @@ pub marks_can : (kept : Kept) → ∥ KeepsSome kept ∥₁ → (diff : RecordOp
     → list_all (λ mark. mark.1 || is_listed kept.changes.live mark.0) (marks_of (left_under kept.records.0 diff)) ≡ true
 marks_can kept some [] changes = refl
 marks_can kept some (c ∷ diff) changes =
-    both _ _
+    and_true _ _
     (elim (is_some (raw c.1 (value_at kept.records.0 c.0))) as (λ b. b || is_some (value_at kept.records.0 c.0) ≡ true → b || is_listed kept.changes.live c.0 ≡ true) [
       | true ↦ λ h. refl
       | false ↦ λ h. live_some kept some c.0 h
     ] (first _ _ changes))
-    (marks_can kept some diff (second _ _ changes))
+    (marks_can kept some diff (and_right _ _ changes))
 
 -- an accepted push
 module _ (first : ℕ) (history : History) (old new : Kept) (accepted : Accepted) (keeps : Keeps first history old) (suits : Suits (schema_tree old.schema) old.records.0 accepted) where

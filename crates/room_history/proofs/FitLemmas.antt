@@ -5,6 +5,7 @@ use Rattle.std.specs.List.{list_all, cons_option}
 use Rattle.std.specs.Option.{option_map_or, option_or}
 use Rattle.std.proofs.lemmas.Int.{ints}
 use Rattle.std.proofs.lemmas.Bool.Decides.{nat_tests}
+use Rattle.rooms_val.proofs.Truths.{and_left, and_right, unnot_true}
 use Rattle.rooms_val.specs.Maps.{ties}
 use Rattle.rooms_val.specs.View.{data_of}
 use Rattle.rooms_val.specs.Weight.{weight}
@@ -19,25 +20,13 @@ use Rattle.room_model.specs.declared.saved.SavedRoom.{SavedRoom}
 use Rattle.room_model.specs.declared.saved.SavedTomb.{SavedTomb}
 use Rattle.room_history.proofs.BegunLemmas.{Fits, says, record_at, tomb_at, AreApart, AreTombsApart}
 
-both_left : (a b : Bool) → a && b ≡ true → a ≡ true
-both_left true b is = refl
-both_left false b is = is
-
-both_right : (a b : Bool) → a && b ≡ true → b ≡ true
-both_right true b is = is
-both_right false b is = absurd (cc)
-
-not_false : (b : Bool) → not b ≡ true → b ≡ false
-not_false true is = absurd (cc)
-not_false false is = refl
-
 -- what passes a test of all records, or of all tombstones
 record_passes : (test : SavedRecord → Bool) (rs : List SavedRecord) (q : List ℕ) (r : SavedRecord) → list_all test rs ≡ true → record_at rs q ≡ Some r → test r ≡ true
 record_passes test [] q r all is = let no = ap is_some is in absurd (cc)
 record_passes test (x ∷ rs) q r all is =
     elim (says q x) as (λ b. cond b (Some x) (record_at rs q) ≡ Some r → test r ≡ true) [
-      | true ↦ λ h. subst (λ y. test y ≡ true) (some_is x r h) (both_left (test x) _ all)
-      | false ↦ λ h. record_passes test rs q r (both_right (test x) _ all) h
+      | true ↦ λ h. subst (λ y. test y ≡ true) (some_is x r h) (and_left (test x) _ all)
+      | false ↦ λ h. record_passes test rs q r (and_right (test x) _ all) h
     ] is
   where
     some_is : (x y : SavedRecord) → ◌≡◌ {A = Option SavedRecord} (Some x) (Some y) → x ≡ y
@@ -47,8 +36,8 @@ tomb_passes : (test : SavedTomb → Bool) (ts : List SavedTomb) (q : List ℕ) (
 tomb_passes test [] q t all is = let no = ap is_some is in absurd (cc)
 tomb_passes test (x ∷ ts) q t all is =
     elim (ties q x.id) as (λ b. cond b (Some x) (tomb_at ts q) ≡ Some t → test t ≡ true) [
-      | true ↦ λ h. subst (λ y. test y ≡ true) (some_is x t h) (both_left (test x) _ all)
-      | false ↦ λ h. tomb_passes test ts q t (both_right (test x) _ all) h
+      | true ↦ λ h. subst (λ y. test y ≡ true) (some_is x t h) (and_left (test x) _ all)
+      | false ↦ λ h. tomb_passes test ts q t (and_right (test x) _ all) h
     ] is
   where
     some_is : (x y : SavedTomb) → ◌≡◌ {A = Option SavedTomb} (Some x) (Some y) → x ≡ y
@@ -77,7 +66,7 @@ module _ (s : Schemas) where
         | None ↦ λ own no. let never = ap is_some no in absurd (cc)
         | Some id ↦ λ own h.
             (elim (is_admitted_as s r id && not (is_among earlier id)) as (λ b. is_admitted_as s r id && not (is_among earlier id) ≡ b → cond b (unfit_record s (id ∷ earlier) rs) (Some id) ≡ None → AreGood earlier (r ∷ rs)) [
-              | true ↦ λ is rest. (id, own, both_left _ _ is, not_false _ (both_right (is_admitted_as s r id) _ is), good (id ∷ earlier) rs rest)
+              | true ↦ λ is rest. (id, own, and_left _ _ is, unnot_true _ (and_right (is_admitted_as s r id) _ is), good (id ∷ earlier) rs rest)
               | false ↦ λ is no. let never = ap is_some no in absurd (cc)
             ] refl h)
       ] refl none
@@ -120,7 +109,7 @@ module _ (s : Schemas) where
   good_tombs earlier [] none = tt
   good_tombs earlier (t ∷ ts) none =
       elim (s.is_document t.id && not (is_among earlier t.id)) as (λ b. s.is_document t.id && not (is_among earlier t.id) ≡ b → cond b (unfit_tomb s (t.id ∷ earlier) ts) (Some t.id) ≡ None → AreGoodTombs earlier (t ∷ ts)) [
-        | true ↦ λ is rest. (not_false _ (both_right (s.is_document t.id) _ is), good_tombs (t.id ∷ earlier) ts rest)
+        | true ↦ λ is rest. (unnot_true _ (and_right (s.is_document t.id) _ is), good_tombs (t.id ∷ earlier) ts rest)
         | false ↦ λ is no. let never = ap is_some no in absurd (cc)
       ] refl none
 
@@ -249,13 +238,13 @@ module _ (s : Schemas) (last : ℤ) (saved : SavedRoom) (are : Stands s last sav
             ] refl;
         record_clocks = λ q r at.
             let is = record_passes (λ r. int_le (pos 1) r.clock && int_le r.clock saved.clock) D q r records_clocked at in
-            let low = both_left (int_le (pos 1) r.clock) _ is in
-            let high = both_right (int_le (pos 1) r.clock) _ is in
+            let low = and_left (int_le (pos 1) r.clock) _ is in
+            let high = and_right (int_le (pos 1) r.clock) _ is in
             (grind (arith, ints), grind (arith, ints));
         tomb_clocks = λ q t at.
             let is = tomb_passes (λ t. int_lt saved.start t.clock && int_le t.clock saved.clock) T q t tombs_clocked at in
-            let low = both_left (int_lt saved.start t.clock) _ is in
-            let high = both_right (int_lt saved.start t.clock) _ is in
+            let low = and_left (int_lt saved.start t.clock) _ is in
+            let high = and_right (int_lt saved.start t.clock) _ is in
             (grind (arith, ints), grind (arith, ints));
       }
 

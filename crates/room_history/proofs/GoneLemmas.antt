@@ -7,6 +7,7 @@ use Rattle.std.specs.declared.cmp.Ordering.TheVariants.{Less, Equal, Greater}
 use Rattle.std.proofs.lemmas.Int.{ints}
 use Rattle.std.proofs.lemmas.Bool.Decides.{nat_tests}
 use Rattle.std.proofs.lemmas.List.{length-map, length-append}
+use Rattle.rooms_val.proofs.Truths.{filter_shorter}
 use Rattle.rooms_val.specs.Maps.{value_at, with_key, order}
 use Rattle.rooms_val.specs.View.{data_of}
 use Rattle.field_ops.specs.RecordOps.{RecordOpTree, RecordOps, put, remove}
@@ -82,9 +83,6 @@ lacking-diff saved n =
     omega arith
 
 -- marks add at most one removed id for each operation that leaves no record
-shorter : {X : Type 0} (test : X → Bool) (xs : List X) → length (filter test xs) ≤ length xs
-shorter test xs = at_most-filter test xs
-
 marked_few : (clock : ℤ) (diff : RecordOps) (lists : Lists) → length (mark_diff clock diff lists).1 ≤ length lists.1 + lacking diff
 marked_few clock [] lists = omega arith
 marked_few clock (c ∷ diff) lists =
@@ -92,8 +90,8 @@ marked_few clock (c ∷ diff) lists =
     let ih = marked_few clock diff (mark_new clock c.0 b lists) in
     let one : length (mark_new clock c.0 b lists).1 ≤ length lists.1 + one_if (not b) =
     elim b as (λ t. length (mark_new clock c.0 t lists).1 ≤ length lists.1 + one_if (not t)) [
-      | true ↦ let less = shorter (λ change. not (has_id c.0 change)) lists.1 in omega arith
-      | false ↦ let less = shorter (λ change. not (has_id c.0 change)) lists.1 in let long = length-append (without_id c.0 lists.1) (record { id = c.0; clock = clock; live = false } ∷ []) in omega arith
+      | true ↦ let less = filter_shorter (λ change. not (has_id c.0 change)) lists.1 in omega arith
+      | false ↦ let less = filter_shorter (λ change. not (has_id c.0 change)) lists.1 in let long = length-append (without_id c.0 lists.1) (record { id = c.0; clock = clock; live = false } ∷ []) in omega arith
     ] in
     omega arith
 

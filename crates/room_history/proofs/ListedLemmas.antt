@@ -5,9 +5,9 @@ use Rattle.std.proofs.lemmas.List.Elements.{All-nil, All-cons, All-head, All-tai
 use Rattle.std.proofs.lemmas.Int.{ints}
 use Rattle.change_list.specs.declared.entries.Change.{Change}
 use Rattle.change_list.specs.Changes.{has_id, without_id, IsListed, AreUpTo}
+use Rattle.rooms_val.proofs.Truths.{or_left, and_left, and_right, and_true}
 use Rattle.rooms_val.specs.Maps.{value_at, ties}
 use Rattle.rooms_val.proofs.MapsLemmas.{ties_same, ties_flip}
-use Rattle.room_model.proofs.ActingLemmas.{left as first, right as second, both}
 use Rattle.room_history.specs.Marks.{Marks, Lists, is_listed, mark_one}
 
 module _ {X : Type 0} (P : X → Type 0) where
@@ -63,9 +63,6 @@ listed-without (c ∷ cs) id q other is =
           ]
     ] refl is
 
-or_left : (a b : Bool) → a ≡ true → a || b ≡ true
-or_left a b is = ap (λ x. x || b) is
-
 listed-marked : (clock : ℤ) (id q : List ℕ) (live : Bool) (lists : Lists) → ties q id ≡ false → is_listed lists.0 q ≡ true → is_listed ((mark_one clock id live lists).0) q ≡ true
 listed-marked clock id q true lists other is = listed-append (without_id id lists.0) _ q ∙ or_left _ _ (listed-without lists.0 id q other is)
 listed-marked clock id q false lists other is = listed-without lists.0 id q other is
@@ -78,10 +75,10 @@ can_mark clock id live lists (mark ∷ marks) fresh all =
     elim (ties id mark.0) as (λ b. ties id mark.0 ≡ b → cond b (Some mark.1) (value_at marks id) ≡ None → list_all (λ mark. mark.1 || is_listed ((mark_one clock id live lists).0) mark.0) (mark ∷ marks) ≡ true) [
       | true ↦ λ same some. absurd (cc)
       | false ↦ λ other rest.
-          both _ _
+          and_true _ _
           (elim mark.1 as (λ b. b || is_listed lists.0 mark.0 ≡ true → b || is_listed ((mark_one clock id live lists).0) mark.0 ≡ true) [
             | true ↦ λ h. refl
             | false ↦ λ h. listed-marked clock id mark.0 live lists (ties_flip mark.0 id ∙ other) h
-          ] (first _ _ all))
-          (can_mark clock id live lists marks rest (second _ _ all))
+          ] (and_left _ _ all))
+          (can_mark clock id live lists marks rest (and_right _ _ all))
     ] refl fresh

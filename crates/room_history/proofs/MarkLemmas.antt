@@ -8,7 +8,7 @@ use Rattle.rooms_val.specs.Maps.{value_at, ties, AreRising}
 use Rattle.field_ops.specs.RecordOps.{RecordOps}
 use Rattle.field_ops.specs.Patched.{raw}
 use Rattle.room_model.specs.Histories.{History, records_of}
-use Rattle.room_model.proofs.ActingLemmas.{left as both_left, right as both_right}
+use Rattle.rooms_val.proofs.Truths.{and_left, and_right}
 use Rattle.room_accept.specs.Suiting.{left_under, each_changes}
 use Rattle.room_history.specs.Keeps.{change_at}
 use Rattle.room_history.specs.Marks.{Lists, mark_one, mark_all, marks_of}
@@ -52,6 +52,6 @@ module _ (history : History) (start : ℕ) (below : start < suc (length history)
   pub marked : (diff rest : RecordOps) → AreRising (diff ++ rest) → each_changes M rest ≡ true → mark_all (pos (suc (length history))) (marks_of (left_under M rest)) (lists diff) ≡ lists (diff ++ rest)
   marked diff [] rising changes = ap lists (sym (append-nil diff))
   marked diff (c ∷ rest) rising changes =
-      let step = one diff c (none_before diff c rest rising) (both_left _ _ changes) in
+      let step = one diff c (none_before diff c rest rising) (and_left _ _ changes) in
       let on : AreRising ((diff ++ c ∷ []) ++ rest) = subst AreRising (sym (append_assoc diff (c ∷ []) rest)) rising in
-      ap (mark_all (pos (suc (length history))) (marks_of (left_under M rest))) step ∙ marked (diff ++ c ∷ []) rest on (both_right _ _ changes) ∙ ap lists (append_assoc diff (c ∷ []) rest)
+      ap (mark_all (pos (suc (length history))) (marks_of (left_under M rest))) step ∙ marked (diff ++ c ∷ []) rest on (and_right _ _ changes) ∙ ap lists (append_assoc diff (c ∷ []) rest)

@@ -6,6 +6,7 @@ use Rattle.std.specs.Prelude.{IsPermutation}
 use Rattle.std.proofs.lemmas.Bool.Decides.{nat_tests}
 use Rattle.std.proofs.lemmas.List.Elements.{All-cons, All-head, All-tail}
 use Rattle.std.proofs.lemmas.List.Sorted.{All-permutation, list_any-IsPermutation}
+use Rattle.rooms_val.proofs.Truths.{none_some}
 use Rattle.rooms_val.specs.Data.{Data, Pairs, whole}
 use Rattle.rooms_val.specs.Kinds.{field, as_text}
 use Rattle.rooms_val.specs.Maps.{ties, AreRising, value_at, keys_of}
@@ -52,9 +53,6 @@ map_after g f (x ∷ xs) = ap (λ r. g (f x) ∷ r) (map_after g f xs)
 
 itself : (q : List ℕ) → ties q q ≡ true
 itself q = ap is_eq (order_itself q)
-
-none_some : {X : Type 0} (x : X) → None ≡ Some x → ⊥
-none_some x is = cc
 
 module _ {V : Type 0} where
   -- each key of a map is there

@@ -25,7 +25,7 @@ use Rattle.room_accept.proofs.SizeLemmas.{adds, IsTotal, total-set_at, length_to
 use Rattle.room_accept.specs.Sizes.{size_of}
 use Rattle.room_accept.specs.Suiting.{AreAdmitted}
 use Rattle.room_model.proofs.HistoryLemmas.{Each, each-imp}
-use Rattle.room_model.proofs.ActingLemmas.{left as both_left, right as both_right}
+use Rattle.rooms_val.proofs.Truths.{and_left, and_right}
 use Rattle.room_model.proofs.BaseLemmas.{rising-records as rising-records_of}
 use Rattle.room_model.specs.Histories.{records_of}
 use Rattle.room_model.specs.Saves.{own_id, diff_at, begun_to, begun}
@@ -158,7 +158,7 @@ module _ (s : SchemaTree) (last : ℤ) (saved : SavedRoom) (are : Stands (decide
       some_is x y e = ap (λ o. option_map_or (λ z. z) o x) e
 
   each_document : Each (λ (e : List ℕ × Data). is_document s e.0 ≡ true) (records_of (begun saved))
-  each_document = each_found (λ q (d : Data). is_document s q ≡ true) M (rising-records_of (begun saved)) (λ q d is. both_left _ _ (admitted_one q d is))
+  each_document = each_found (λ q (d : Data). is_document s q ≡ true) M (rising-records_of (begun saved)) (λ q d is. and_left _ _ (admitted_one q d is))
 
   documents : records_with (is_document s) (records_of (begun saved)) ≡ records_of (begun saved)
   documents = all_pass (is_document s) M each_document
@@ -224,7 +224,7 @@ module _ (s : SchemaTree) (last : ℤ) (saved : SavedRoom) (are : Stands (decide
       record {
         began = omega (arith, ints);
         records = is.records ∙ ap (λ m. (m, [])) records_are;
-        admitted = subst (λ t. AreAdmitted t M) (sym is.schema) (λ id d at. both_right (is_document s id) _ (admitted_one id d at));
+        admitted = subst (λ t. AreAdmitted t M) (sym is.schema) (λ id d at. and_right (is_document s id) _ (admitted_one id d at));
         size = is.size ∙ size_is ∙ ap (λ t. size_of (is_document t) M) (sym is.schema);
         clock = is.clock ∙ (let same : saved.clock ≡ pos (nat_abs saved.clock) = omega (arith, ints) in same) ∙ ap pos (sym n);
         live = ap (λ l. l.0) lists;

@@ -14,12 +14,12 @@ use Rattle.room_accept.specs.Sizes.{size_of}
 use Rattle.room_accept.specs.Suiting.{AreAdmitted}
 use Rattle.change_list.specs.declared.entries.Change.{Change}
 use Rattle.change_list.specs.Changes.{listed, AreUpTo}
+use Rattle.rooms_val.proofs.Truths.{no_items, or_right}
 use Rattle.rooms_val.specs.Maps.{value_at, ties}
 use Rattle.rooms_val.proofs.MapsLemmas.{ties_flip, ties_same}
 use Rattle.room_model.specs.Histories.{History, records_of, names, last_clocks, dead, changed_after, start_of}
 use Rattle.room_model.proofs.HistoryLemmas.{Each, each-imp, each-filter, each-append, last_within}
 use Rattle.room_model.proofs.LookUpLemmas.{unnamed}
-use Rattle.room_model.proofs.ActingLemmas.{or_right}
 use Rattle.room_history.specs.Keeps.{Keeps, KeepsSome, change_at, present_ids}
 use Rattle.room_history.specs.Marks.{is_listed}
 use Rattle.room_history.specs.declared.kept.Kept.{Kept}
@@ -93,10 +93,6 @@ live_there first history kept keeps q has =
     ap (λ cs. is_listed cs q) keeps.live ∙ listed-map true q (present_ids history)
     ∙ among-filter (λ id. is_some (value_at (records_of history) id)) q (last_clocks history) here (among-last history q here)
 
-no_open : {X : Type 0} (xs : List X) → length xs ≡ 0 → xs ≡ []
-no_open [] none = refl
-no_open (x ∷ xs) none = absurd (omega arith)
-
 -- an order of numbers comes out of a truncation
 at_most : {A : Type 0} (a b : ℤ) → ∥ A ∥₁ → (A → a ≤ℤ b) → a ≤ℤ b
 at_most a b some so =
@@ -108,7 +104,7 @@ at_most a b some so =
 -- what holds of whatever keeps some history
 module _ (kept : Kept) (some : ∥ KeepsSome kept ∥₁) where
   pub idle : kept.records.1 ≡ []
-  idle = no_open kept.records.1 (∥∥₁_elim some (ℕ_set _ _) (λ k. ap (λ r. length r.1) k.1.1.records))
+  idle = no_items kept.records.1 (∥∥₁_elim some (ℕ_set _ _) (λ k. ap (λ r. length r.1) k.1.1.records))
 
   pub admitted_are : AreAdmitted (schema_tree kept.schema) kept.records.0
   admitted_are id d is = ∥∥₁_elim some (Bool-set _ _) (λ k. k.1.1.admitted id d (ap (λ r. value_at r.0 id) (sym k.1.1.records) ∙ is))

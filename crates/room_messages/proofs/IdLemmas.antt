@@ -14,7 +14,8 @@ use Rattle.field_ops.specs.RecordOps.{RecordOpTree, put, remove, RecordOps}
 use Rattle.room_model.specs.Schemas.{Schemas, Plan, Member, presence_id, is_own, records_with, pres}
 use Rattle.room_model.specs.Histories.{History, records_of, last_clock, changed_after}
 use Rattle.room_model.specs.Messages.{state_op, changes_after, with_puts, others_of}
-use Rattle.room_model.proofs.ActingLemmas.{differ, or_right}
+use Rattle.room_model.proofs.ActingLemmas.{differ}
+use Rattle.rooms_val.proofs.Truths.{or_right}
 use Rattle.room_model.proofs.LookUpLemmas.{has, at-filter, rising-filter, at-fold, rising-fold, at-over, rising-over, seen_or, has-filter, has-changed}
 use Rattle.room_model.proofs.BaseLemmas.{rising-records}
 use Rattle.room_messages.proofs.ListLemmas.{filter-both, filter-same}

@@ -4,7 +4,8 @@ use Rattle.std.specs.Ordering.{is_lt}
 use Rattle.std.specs.FinMap.Entries.{is_sorted, below_all}
 use Rattle.rooms_val.specs.Data.{Data, Pairs}
 use Rattle.rooms_val.specs.Maps.{order, AreRising, value_at, with_key}
-use Rattle.rooms_val.proofs.MapsLemmas.{first, second, both, put_last}
+use Rattle.rooms_val.proofs.MapsLemmas.{first, second, put_last}
+use Rattle.rooms_val.proofs.Truths.{and_holds}
 use Rattle.field_ops.specs.RecordOps.{RecordOpTree, RecordOps}
 use Rattle.room_model.specs.Schemas.{Schemas, Plan, Member, is_own}
 use Rattle.room_model.specs.Acting.{document_ops, IsActionOf}
@@ -75,7 +76,7 @@ module _ (schemas : Schemas) where
         let rest = told_part schemas member some diff after in
         let ih = below-part some k diff after (second _ _ below) in
         elim (is_told schemas member some c.0) as (λ b. T (below_all order k (cond b ((c.0, told_of schemas member.plan r.1 c.1) ∷ rest) rest))) [
-          | true ↦ both (is_lt (order k c.0)) (below_all order k rest) (first _ _ below) ih
+          | true ↦ and_holds (is_lt (order k c.0)) (below_all order k rest) (first _ _ below) ih
           | false ↦ ih
         ]
 
@@ -86,7 +87,7 @@ module _ (schemas : Schemas) where
         let rest = told_part schemas member some diff after in
         let ih = rising-part some diff after (second _ _ rising) in
         elim (is_told schemas member some c.0) as (λ b. AreRising (cond b ((c.0, told_of schemas member.plan r.1 c.1) ∷ rest) rest)) [
-          | true ↦ both (below_all order c.0 rest) (is_sorted order rest) (below-part some c.0 diff after (first _ _ rising)) ih
+          | true ↦ and_holds (below_all order c.0 rest) (is_sorted order rest) (below-part some c.0 diff after (first _ _ rising)) ih
           | false ↦ ih
         ]
 

@@ -1,6 +1,7 @@
 -- What is accepted of a diff, and when that is all of it.
 use Rattle.std.proofs.Common.{◌≡◌, ◌⊎◌, inl, inr, ℕ, suc, ◌≤◌, ◌==◌, Bool, true, false, ◌&&◌, cond, List, [], ◌∷◌, length, refl, sym, ap, subst, ◌∙◌, arith}
 use Rattle.std.proofs.lemmas.Bool.Decides.{nat_tests}
+use Rattle.rooms_val.proofs.Truths.{and_left}
 use Rattle.rooms_val.specs.Data.{Pairs}
 use Rattle.rooms_val.specs.Maps.{value_at, set_at}
 use Rattle.field_ops.specs.RecordOps.{RecordOps}
@@ -10,14 +11,10 @@ use Rattle.room_model.specs.Schemas.{Schemas, Plan, Member}
 use Rattle.room_model.specs.Accepting.{tried_op, is_accepted, accept_ops, document_part, action_of, is_empty}
 use Rattle.sync_msgs.specs.declared.data_event.Action.TheVariants.{Commit, Rebase}
 
-both_left : (a b : Bool) → a && b ≡ true → a ≡ true
-both_left true b is = refl
-both_left false b is = is
-
 module _ (schemas : Schemas) where
   -- what is accepted acts
   pub accepted_acts : (m : Pairs) (id : List ℕ) (c : _) → is_accepted schemas m id c ≡ true → acts_on schemas.admits id c (value_at m id) ≡ true
-  accepted_acts m id c is = both_left _ _ (both_left _ _ is)
+  accepted_acts m id c is = and_left _ _ (and_left _ _ is)
 
   pub folded-accepted : (plan : Plan) (m : Pairs) (diff : RecordOps) → fold_raw m (accept_ops schemas plan m diff) ≡ step schemas.admits m (accept_ops schemas plan m diff)
   folded-accepted plan m [] = refl

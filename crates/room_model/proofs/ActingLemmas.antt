@@ -2,11 +2,10 @@
 use Rattle.std.proofs.Common.{◌≡◌, ℕ, Bool, true, false, ◌&&◌, ◌||◌, ◌==◌, cond, not, T, List, [], ◌∷◌, length, filter, Option, Some, None, Ordering, Less, Equal, Greater, is_eq, refl, sym, ap, subst, ◌∙◌}
 use Rattle.std.specs.List.{list_all}
 use Rattle.std.specs.Option.{option_map_or, option_and_then}
-use Rattle.std.specs.Str.{bytes_eq}
-use Rattle.std.proofs.lemmas.Slice.Eq.{bytes_eq-Decides}
 use Rattle.std.specs.Ordering.{is_lt, ordering_reverse}
 use Rattle.std.proofs.lemmas.Cmp.{nat_list_cmp_total}
 use Rattle.std.specs.FinMap.Entries.{below_all, by_order}
+use Rattle.rooms_val.proofs.Truths.{and_left, and_right, and_true, or_left, or_right, and_holds, bytes_eq_itself}
 use Rattle.rooms_val.specs.Data.{Data, Pairs}
 use Rattle.rooms_val.specs.Maps.{value_at, order, AreRising, with_key, set_at, added, ties}
 use Rattle.rooms_val.proofs.MapsLemmas.{first, second, ties_same, order_itself, same_key, at-set_at, rising-with_key}
@@ -23,24 +22,8 @@ use Rattle.room_model.proofs.HistoryLemmas.{Each, each-two}
 use Rattle.room_model.proofs.AcceptLemmas.{accepted_acts}
 use Rattle.sync_msgs.specs.declared.data_event.Action.TheVariants.{Commit, Rebase}
 
-pub left : (a b : Bool) → a && b ≡ true → a ≡ true
-left true b is = refl
-left false b is = is
-
-pub right : (a b : Bool) → a && b ≡ true → b ≡ true
-right true b is = is
-right false b is = absurd (cc)
-
 pub differ : true ≡ false → ⊥
 differ is = cc
-
-pub both : (a b : Bool) → a ≡ true → b ≡ true → a && b ≡ true
-both true b p q = q
-both false b p q = p
-
-joined : (a b : Bool) → T a → T b → T (a && b)
-joined true b p q = q
-joined false b p q = p
 
 smaller : (o : Ordering) → T (is_lt o) → is_eq (ordering_reverse o) ≡ false
 smaller Less h = refl
@@ -54,29 +37,18 @@ others_after k (e ∷ es) h = (ap is_eq (nat_list_cmp_total.antisymm e.0 k) ∙ 
 
 -- a test of what is put and of all pairs holds of all pairs afterwards
 pub all-with_key : {V : Type 0} (test : List ℕ × V → Bool) (es : List (List ℕ × V)) (k : List ℕ) (v : V) → list_all test es ≡ true → test (k, v) ≡ true → list_all test (with_key es k v) ≡ true
-all-with_key test [] k v all new = both _ _ new refl
+all-with_key test [] k v all new = and_true _ _ new refl
 all-with_key {V} test (e ∷ es) k v all new =
     elim (order k e.0) as (λ o. order k e.0 ≡ o → list_all test (by_order o ((k, v) ∷ e ∷ es) ((e.0, v) ∷ es) (e ∷ with_key es k v)) ≡ true) [
-      | Less ↦ λ is. both _ _ new all
-      | Equal ↦ λ is. both _ _ (ap (λ key. test (key, v)) (sym (same_key k e.0 is)) ∙ new) (right _ _ all)
-      | Greater ↦ λ is. both _ _ (left _ _ all) (all-with_key test es k v (right _ _ all) new)
+      | Less ↦ λ is. and_true _ _ new all
+      | Equal ↦ λ is. and_true _ _ (ap (λ key. test (key, v)) (sym (same_key k e.0 is)) ∙ new) (and_right _ _ all)
+      | Greater ↦ λ is. and_true _ _ (and_left _ _ all) (all-with_key test es k v (and_right _ _ all) new)
     ] refl
-
-pub or_left : (a b : Bool) → a ≡ true → a || b ≡ true
-or_left true b is = refl
-or_left false b is = absurd (cc)
-
-pub or_right : (a b : Bool) → b ≡ true → a || b ≡ true
-or_right true b is = refl
-or_right false b is = is
 
 -- a test that asks less passes too
 pub all-imp : {X : Type 0} (f g : X → Bool) → ((x : X) → f x ≡ true → g x ≡ true) → (xs : List X) → list_all f xs ≡ true → list_all g xs ≡ true
 all-imp f g more [] all = refl
-all-imp f g more (x ∷ xs) all = both _ _ (more x (left _ _ all)) (all-imp f g more xs (right _ _ all))
-
-bytes_eq_itself : (s : List ℕ) → bytes_eq s s ≡ true
-bytes_eq_itself s = (bytes_eq-Decides s s).1 refl
+all-imp f g more (x ∷ xs) all = and_true _ _ (more x (and_left _ _ all)) (all-imp f g more xs (and_right _ _ all))
 
 -- a session's presence is its own
 pub own_itself : (session : ℕ) → is_own session (presence_id session) ≡ true
@@ -85,17 +57,17 @@ own_itself session = bytes_eq_itself (presence_id session)
 -- pairs that all pass a test, and a further one that doesn't, are told apart by it
 pub filter_all : {V : Type 0} (test : List ℕ → Bool) (es : List (List ℕ × V)) → list_all (λ e. test e.0) es ≡ true → filter (λ e. test e.0) es ≡ es
 filter_all test [] all = refl
-filter_all test (e ∷ es) all = ap (λ b. cond b (e ∷ filter (λ e. test e.0) es) (filter (λ e. test e.0) es)) (left _ _ all) ∙ ap (λ rest. e ∷ rest) (filter_all test es (right _ _ all))
+filter_all test (e ∷ es) all = ap (λ b. cond b (e ∷ filter (λ e. test e.0) es) (filter (λ e. test e.0) es)) (and_left _ _ all) ∙ ap (λ rest. e ∷ rest) (filter_all test es (and_right _ _ all))
 
 pub filter-with_key : {V : Type 0} (test : List ℕ → Bool) (es : List (List ℕ × V)) (k : List ℕ) (v : V) → list_all (λ e. test e.0) es ≡ true → test k ≡ false → filter (λ e. test e.0) (with_key es k v) ≡ es
 filter-with_key test [] k v all out = ap (λ b. cond b ((k, v) ∷ []) []) out
 filter-with_key {V} test (e ∷ es) k v all out =
     elim (order k e.0) as (λ o. order k e.0 ≡ o → filter (λ e. test e.0) (by_order o ((k, v) ∷ e ∷ es) ((e.0, v) ∷ es) (e ∷ with_key es k v)) ≡ e ∷ es) [
       | Less ↦ λ is. ap (λ b. cond b ((k, v) ∷ filter (λ e. test e.0) (e ∷ es)) (filter (λ e. test e.0) (e ∷ es))) out ∙ filter_all test (e ∷ es) all
-      | Equal ↦ λ is. absurd (differ (sym (ap test (same_key k e.0 is) ∙ left _ _ all) ∙ out))
+      | Equal ↦ λ is. absurd (differ (sym (ap test (same_key k e.0 is) ∙ and_left _ _ all) ∙ out))
       | Greater ↦ λ is.
-          ap (λ b. cond b (e ∷ filter (λ e. test e.0) (with_key es k v)) (filter (λ e. test e.0) (with_key es k v))) (left _ _ all)
-          ∙ ap (λ rest. e ∷ rest) (filter-with_key test es k v (right _ _ all) out)
+          ap (λ b. cond b (e ∷ filter (λ e. test e.0) (with_key es k v)) (filter (λ e. test e.0) (with_key es k v))) (and_left _ _ all)
+          ∙ ap (λ rest. e ∷ rest) (filter-with_key test es k v (and_right _ _ all) out)
     ] refl
 
 -- what acts is sure
@@ -113,7 +85,7 @@ module _ (schemas : Schemas) (plan : Plan) where
       let next = set_at m c.0 (raw op (value_at m c.0)) in
       let low = first (is_lt (order k c.0)) (below_all order k diff) h in
       elim (is_accepted schemas m c.0 op) as (λ b. T (below_all order k (cond b ((c.0, op) ∷ accept_ops schemas plan next diff) (accept_ops schemas plan m diff)))) [
-        | true ↦ joined _ _ low (below-accepted k next diff (second _ _ h))
+        | true ↦ and_holds _ _ low (below-accepted k next diff (second _ _ h))
         | false ↦ below-accepted k m diff (second _ _ h)
       ]
 
@@ -123,7 +95,7 @@ module _ (schemas : Schemas) (plan : Plan) where
       let op = tried_op schemas plan c.1 (value_at m c.0) in
       let next = set_at m c.0 (raw op (value_at m c.0)) in
       elim (is_accepted schemas m c.0 op) as (λ b. AreRising (cond b ((c.0, op) ∷ accept_ops schemas plan next diff) (accept_ops schemas plan m diff))) [
-        | true ↦ joined _ _ (below-accepted c.0 next diff (first _ _ h)) (rising-accepted next diff (second _ _ h))
+        | true ↦ and_holds _ _ (below-accepted c.0 next diff (first _ _ h)) (rising-accepted next diff (second _ _ h))
         | false ↦ rising-accepted m diff (second _ _ h)
       ]
 
@@ -138,7 +110,7 @@ module _ (schemas : Schemas) (plan : Plan) where
       (λ d apart is. at-set_at m c.0 d.0 (raw op (value_at m c.0)) ∙ ap (λ b. cond b (raw op (value_at m c.0)) (value_at m d.0)) apart ∙ is)
       diff (others_after c.0 diff (first _ _ h)) same.1 in
       elim (is_accepted schemas m c.0 op) as (λ b. is_accepted schemas m c.0 op ≡ b → list_all (λ d. is_sure schemas d.0 d.1 (value_at start d.0)) (cond b ((c.0, op) ∷ accept_ops schemas plan next diff) (accept_ops schemas plan m diff)) ≡ true) [
-        | true ↦ λ is. both _ _ (subst (λ r. is_sure schemas c.0 op r ≡ true) same.0 (sure schemas c.0 op (value_at m c.0) (accepted_acts schemas m c.0 op is))) (accepted_each start next diff (second _ _ h) later)
+        | true ↦ λ is. and_true _ _ (subst (λ r. is_sure schemas c.0 op r ≡ true) same.0 (sure schemas c.0 op (value_at m c.0) (accepted_acts schemas m c.0 op is))) (accepted_each start next diff (second _ _ h) later)
         | false ↦ λ is. accepted_each start m diff (second _ _ h) same.1
       ] refl
 
@@ -149,8 +121,8 @@ module _ (schemas : Schemas) (plan : Plan) where
       let op = tried_op schemas plan c.1 (value_at m c.0) in
       let next = set_at m c.0 (raw op (value_at m c.0)) in
       elim (is_accepted schemas m c.0 op) as (λ b. list_all (λ d. test d.0) (cond b ((c.0, op) ∷ accept_ops schemas plan next diff) (accept_ops schemas plan m diff)) ≡ true) [
-        | true ↦ both _ _ (left _ _ all) (all-accepted test next diff (right _ _ all))
-        | false ↦ all-accepted test m diff (right _ _ all)
+        | true ↦ and_true _ _ (and_left _ _ all) (all-accepted test next diff (and_right _ _ all))
+        | false ↦ all-accepted test m diff (and_right _ _ all)
       ]
 
 -- the action of a push says what was accepted
@@ -171,7 +143,7 @@ presence_apart schemas lawful session =
 -- a diff that is fit names ids of the document alone
 pub fit_documents : (schemas : Schemas) (plan : Plan) (diff : RecordOps) → is_fit schemas plan diff ≡ true → list_all (λ c. schemas.is_document c.0) diff ≡ true
 fit_documents schemas plan [] fit = refl
-fit_documents schemas plan (c ∷ diff) fit = both _ _ (left _ _ (left _ _ fit)) (fit_documents schemas plan diff (right _ _ fit))
+fit_documents schemas plan (c ∷ diff) fit = and_true _ _ (and_left _ _ (and_left _ _ fit)) (fit_documents schemas plan diff (and_right _ _ fit))
 
 module _ (schemas : Schemas) (lawful : AreLawful schemas) (member : Member) (m : Pairs) where
   -- what is accepted of a presence acts
@@ -234,14 +206,14 @@ module _ (schemas : Schemas) (lawful : AreLawful schemas) (member : Member) (m :
             (accepted_each schemas member.plan m m push.diff rising (each_same push.diff))
             (all-accepted schemas member.plan schemas.is_document m push.diff (fit_documents schemas member.plan push.diff fit))
             (action_says member.plan push.diff part) (presence_of push.presence)
-      ] (left _ _ taken)
+      ] (and_left _ _ taken)
 
 -- the entry that removes a presence acts where the presence is
 pub removal_acts : (schemas : Schemas) → AreLawful schemas → (room : Room) (session : ℕ) → IsActing schemas (records_of room.history) (removal session)
 removal_acts schemas lawful room session = record {
   rising = tt;
   acting = refl;
-  scoped = both _ _ (or_right _ _ (lawful.presence session)) refl;
+  scoped = and_true _ _ (or_right _ _ (lawful.presence session)) refl;
   own = λ a is. absurd (cc);
   action = λ a is. absurd (cc);
 }

@@ -21,7 +21,8 @@ use Rattle.room_model.specs.declared.load_fault.LoadFault.TheVariants.{Clocks, B
 use Rattle.room_model.specs.declared.saved.SavedRecord.{SavedRecord}
 use Rattle.room_model.specs.declared.saved.SavedRoom.{SavedRoom}
 use Rattle.room_model.specs.declared.saved.SavedTomb.{SavedTomb}
-use Rattle.room_model.proofs.ActingLemmas.{left, right, both, differ, all-with_key, all-imp, or_left, presence_apart}
+use Rattle.room_model.proofs.ActingLemmas.{differ, all-with_key, all-imp, presence_apart}
+use Rattle.rooms_val.proofs.Truths.{and_left, and_right, and_true, or_left}
 
 -- where a test that leaves nothing else must have held
 test_held : {X : Type 0} (b : Bool) (o : Option X) (x : X) → cond b o (Some x) ≡ None → (b ≡ true) × (o ≡ None)
@@ -66,12 +67,12 @@ module _ (schemas : Schemas) where
         | None ↦ λ none. absurd (cc)
         | Some id ↦ λ some.
             let h = test_held _ _ id some in
-            both _ _ (left _ _ (left _ _ h.0)) (records_say (id ∷ earlier) more h.1)
+            and_true _ _ (and_left _ _ (and_left _ _ h.0)) (records_say (id ∷ earlier) more h.1)
       ] fit
 
   tombs_say : (earlier : List (List ℕ)) (saved : List SavedTomb) → unfit_tomb schemas earlier saved ≡ None → list_all (λ t. schemas.is_document t.id) saved ≡ true
   tombs_say earlier [] fit = refl
-  tombs_say earlier (tomb ∷ more) fit = let h = test_held _ _ tomb.id fit in both _ _ (left _ _ h.0) (tombs_say (tomb.id ∷ earlier) more h.1)
+  tombs_say earlier (tomb ∷ more) fit = let h = test_held _ _ tomb.id fit in and_true _ _ (and_left _ _ h.0) (tombs_say (tomb.id ∷ earlier) more h.1)
 
   fits_none : (b : Bool) (o : Option (List ℕ)) (large : Option LoadFault) → cond b (Some Clocks) (option_map_or (λ id. Some (BadRecord id)) o large) ≡ None → o ≡ None
   fits_none true o large is = absurd (cc)
@@ -108,13 +109,13 @@ module _ (schemas : Schemas) where
 
     with_records : (saved : List SavedRecord) (es : RecordOps) → list_all says_document saved ≡ true → list_all test es ≡ true → list_all test (fold (with_record n) es saved) ≡ true
     with_records [] es say all = all
-    with_records (saved ∷ more) es say all = with_records more (with_record n es saved) (right _ _ say) (with_one es saved (left _ _ say) all)
+    with_records (saved ∷ more) es say all = with_records more (with_record n es saved) (and_right _ _ say) (with_one es saved (and_left _ _ say) all)
 
     with_tombs : (saved : List SavedTomb) (es : RecordOps) → list_all (λ t. schemas.is_document t.id) saved ≡ true → list_all test es ≡ true → list_all test (fold (with_tomb n) es saved) ≡ true
     with_tombs [] es say all = all
     with_tombs (tomb ∷ more) es say all =
-        with_tombs more (with_tomb n es tomb) (right _ _ say)
-        (elim (nat_abs tomb.clock == n) as (λ b. list_all test (cond b (with_key es tomb.id remove) es) ≡ true) [ true ↦ all-with_key test es tomb.id remove all (passes.removes tomb.id (left _ _ say)) | false ↦ all ])
+        with_tombs more (with_tomb n es tomb) (and_right _ _ say)
+        (elim (nat_abs tomb.clock == n) as (λ b. list_all test (cond b (with_key es tomb.id remove) es) ≡ true) [ true ↦ all-with_key test es tomb.id remove all (passes.removes tomb.id (and_left _ _ say)) | false ↦ all ])
 
     diff_all : (saved : SavedRoom) → AreOfDocument saved → list_all test (diff_at saved n) ≡ true
     diff_all saved h = with_tombs saved.tombstones.items _ h.tombs (with_records saved.documents.items [] h.records refl)
@@ -143,9 +144,9 @@ module _ (schemas : Schemas) where
     was_there id (c ∷ diff) m scope all there =
         let done = raw c.1 (value_at m c.0) in
         elim (ties id c.0) as (λ b. ties id c.0 ≡ b → is_some (cond b done (value_at m id)) ≡ true → is_some (value_at m id) ≡ true) [
-          | true ↦ λ is some. absurd (differ (sym (left _ _ all) ∙ (ap schemas.is_document (sym (ties_same id c.0 is)) ∙ scope)))
+          | true ↦ λ is some. absurd (differ (sym (and_left _ _ all) ∙ (ap schemas.is_document (sym (ties_same id c.0 is)) ∙ scope)))
           | false ↦ λ is some. some
-        ] refl (sym (ap is_some (at-set_at m c.0 id done)) ∙ was_there id diff (set_at m c.0 done) scope (right _ _ all) there)
+        ] refl (sym (ap is_some (at-set_at m c.0 id done)) ∙ was_there id diff (set_at m c.0 done) scope (and_right _ _ all) there)
 
     none_there : (id : List ℕ) (n : ℕ) → schemas.is_document id ≡ false → is_some (value_at (records_of (begun_to saved n)) id) ≡ true → ⊥
     none_there id zero scope there = differ (sym there)

@@ -1,7 +1,8 @@
 -- What each call does to a room, as one of five steps; and what every step keeps.
-use Rattle.std.proofs.Common.{◌≡◌, ◌⊎◌, inl, inr, ℕ, zero, suc, ◌-◌, nat_lt, nat_le, Bool, true, false, ◌||◌, cond, List, [], ◌∷◌, ◌++◌, length, slice_get, slice_set, Option, Some, None, option_map, option_and_then, Ok, Err, Result, refl, sym, ap, subst, ◌∙◌}
+use Rattle.std.proofs.Common.{◌≡◌, ◌⊎◌, inl, inr, ℕ, zero, suc, ◌-◌, nat_lt, nat_le, Bool, true, false, ◌||◌, cond, List, [], ◌∷◌, ◌++◌, length, slice_get, slice_set, Option, Some, None, option_and_then, Ok, Err, Result, refl, sym, ap, subst, ◌∙◌}
 use Rattle.std.specs.Option.{option_map_or}
 use Rattle.std.proofs.lemmas.Option.{same_Some}
+use Rattle.rooms_val.proofs.Truths.{neither, mapped}
 use Rattle.rooms_val.specs.Maps.{AreRising}
 use Rattle.room_model.specs.Schemas.{Schemas, Plan, Member}
 use Rattle.room_model.specs.Histories.{records_of}
@@ -35,11 +36,6 @@ module _ {X : Type 0} where
   got-added [] (suc k) y z is = absurd (cc)
   got-added (x ∷ xs) zero y z is = inr is
   got-added (x ∷ xs) (suc k) y z is = got-added xs k y z is
-
--- what an option of a call says
-mapped : {X Y : Type 0} (f : X → Y) (o : Option X) (y : Y) → option_map f o ≡ Some y → (x : X) × (o ≡ Some x) × (f x ≡ y)
-mapped f None y is = absurd (cc)
-mapped f (Some x) y is = let same : f x ≡ y = cc in (x, refl, same)
 
 pub chained : {X Y : Type 0} (f : X → Option Y) (o : Option X) (y : Y) → option_and_then f o ≡ Some y → (x : X) × (o ≡ Some x) × (f x ≡ Some y)
 chained f None y is = absurd (cc)
@@ -93,10 +89,6 @@ pub data Step (schemas : Schemas) (pushed : Option (ℕ × ClientMessage)) (room
       → push_of said ≡ Some push → slice_get room.sessions n ≡ Some s → s.phase ≡ live sent plan
       → is_taken schemas (member_of n s plan) push ≡ true
       → after ≡ after_entry (pushed_by schemas room n s plan push) room → Step schemas pushed room after
-
-not_either : (a b : Bool) → a ≡ false → b ≡ false → a || b ≡ false
-not_either true b p q = absurd (cc)
-not_either false b p q = q
 
 module _ (schemas : Schemas) (room : Room) where
   module _ (n : ℕ) (s : Session) (at : slice_get room.sessions n ≡ Some s) where
@@ -189,7 +181,7 @@ module _ (schemas : Schemas) (room : Room) where
     left_in here =
         elim (is_ended s.phase) as (λ b. is_ended s.phase ≡ b → Step schemas None room (cond b (with_session n (record s { phase = gone }) room) (after_close n s gone room))) [
           | true ↦ λ is. goes n s _ refl at (record { same = refl; moves = closes _ _ refl }) (λ over. ap (λ b. b || has_left s.phase) is) refl
-          | false ↦ λ is. ends n s gone refl at (not_either _ _ is here) refl refl
+          | false ↦ λ is. ends n s gone refl at (neither _ _ is here) refl refl
         ] refl
 
   pub message_step : (n : ℕ) (said : ClientMessage) (replied : Replied) → after_message schemas room n said ≡ Some replied → Step schemas (taken_by n said replied.reply) room replied.room

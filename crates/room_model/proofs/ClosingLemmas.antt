@@ -4,6 +4,7 @@ use Rattle.std.specs.List.{list_all}
 use Rattle.std.specs.Option.{option_map_or}
 use Rattle.std.proofs.lemmas.Bool.Decides.{Decides-eqb}
 use Rattle.std.proofs.lemmas.Option.{same_Some}
+use Rattle.rooms_val.proofs.Truths.{unnot_true, and_left, and_right, and_true}
 use Rattle.rooms_val.specs.Maps.{value_at, ties}
 use Rattle.rooms_val.proofs.MapsLemmas.{order_itself, at-set_at}
 use Rattle.room_model.specs.Schemas.{Schemas, presence_id}
@@ -13,7 +14,7 @@ use Rattle.room_model.specs.Reachable.{is_over}
 use Rattle.room_model.specs.Rooms.{Phase, new, asked, live, ended, gone, Session, Room, after_enter, with_session, is_present, removal, close, close_slow, first_slow, without_slow, end_slow, after_close, Replied, after_message, after_leave}
 use Rattle.room_model.specs.declared.handled.Handled.{Handled}
 use Rattle.room_model.specs.declared.handled.Handled.TheVariants.{Taken, Entered, Pong, Ended}
-use Rattle.room_model.proofs.ActingLemmas.{all-imp, left, right, both, differ}
+use Rattle.room_model.proofs.ActingLemmas.{all-imp, differ}
 use Rattle.room_model.proofs.CallLemmas.{Moves, stays, asks, answered, updated, closes, Goes, Step, nothing, enters, goes, ends, pushes, pushed_by, slow_ended, taken_by, message_step, leave_step}
 use Rattle.room_model.proofs.ClockLemmas.{is_live, slow_at, slow_closing, closed_sessions}
 use Rattle.sync_msgs.specs.declared.client_message.ClientMessage.{ClientMessage}
@@ -27,7 +28,7 @@ goes_over clock _ _ (answered request reached plan) h = absurd (cc)
 goes_over clock _ _ (updated sent plan) h = absurd (cc)
 goes_over clock _ q (closes _ _ over) h = over
 
-live_open : (phase : Phase) → is_live phase ≡ true → is_over phase ≡ false
+pub live_open : (phase : Phase) → is_live phase ≡ true → is_over phase ≡ false
 live_open new is = absurd (cc)
 live_open (asked request reached plan) is = refl
 live_open (live sent plan) is = refl
@@ -74,14 +75,10 @@ set_closed k room n s t at on h =
 closed_stays : (k j : ℕ) (room : Room) → is_closed room k ≡ true → is_closed (without_slow j room) k ≡ true
 closed_stays k j room h = slow_ended (λ r. is_closed r k ≡ true) (set_closed k) (λ r n is h. h) j room h
 
-not_false : (b : Bool) → not b ≡ true → b ≡ false
-not_false true is = absurd (cc)
-not_false false is = refl
-
 -- none is both open and closed
 not_both_at : (o : Option Session) → open_at o ≡ true → over_at o ≡ true → ⊥
 not_both_at None is over = differ (sym is)
-not_both_at (Some s) is over = differ (sym over ∙ not_false (is_over s.phase) is)
+not_both_at (Some s) is over = differ (sym over ∙ unnot_true (is_over s.phase) is)
 
 none_closed : (before after : Room) → after.history ≡ before.history → ((k : ℕ) → was_open before k ≡ true → is_closed after k ≡ true → ⊥) → IsClosing before after []
 none_closed before after same none = record { appended = same; present = tt; once = refl; ends = refl; gone = λ k is over. absurd (none k is over) }
@@ -147,7 +144,7 @@ module _ (a : Room) (n : ℕ) (s : Session) (phase : Phase) (at : slice_get a.se
       let before : Bool → Room = λ b. with_session n closed_session (cond b (record a { history = removal n ∷ a.history }) a) in
       let later : list_all (λ k. open_at (slice_get (slice_set a.sessions n closed_session) k) && is_closed c k) ks ≡ true → list_all (λ k. was_open a k && is_closed c k) ks ≡ true =
       λ all. all-imp (λ k. open_at (slice_get (slice_set a.sessions n closed_session) k) && is_closed c k) (λ k. was_open a k && is_closed c k)
-      (λ k both_are. both _ _ (open_before k (left _ _ both_are)).0 (right _ _ both_are)) ks all in
+      (λ k both_are. and_true _ _ (open_before k (and_left _ _ both_are)).0 (and_right _ _ both_are)) ks all in
       let none : ((k : ℕ) → open_at (slice_get (slice_set a.sessions n closed_session) k) ≡ true → is_closed c k ≡ true → is_present k c ≡ false) → (k : ℕ) → was_open a k ≡ true → is_closed c k ≡ true → is_present k c ≡ false =
       λ gone k is over. by_number (λ b. is_present k c ≡ false) k n
       (λ same. ap (λ l. is_present l c) same ∙ absent)
@@ -158,8 +155,8 @@ module _ (a : Room) (n : ℕ) (s : Session) (phase : Phase) (at : slice_get a.se
           record {
             appended = h.appended;
             present = (is, h.present);
-            once = both _ _ (all-imp (λ k. open_at (slice_get (slice_set a.sessions n closed_session) k) && is_closed c k) (λ k. not (k == n)) (λ k both_are. (open_before k (left _ _ both_are)).1) ks h.ends) h.once;
-            ends = both _ _ (both _ _ (ap open_at at ∙ ap not here) closed) (later h.ends);
+            once = and_true _ _ (all-imp (λ k. open_at (slice_get (slice_set a.sessions n closed_session) k) && is_closed c k) (λ k. not (k == n)) (λ k both_are. (open_before k (and_left _ _ both_are)).1) ks h.ends) h.once;
+            ends = and_true _ _ (and_true _ _ (ap open_at at ∙ ap not here) closed) (later h.ends);
             gone = none h.gone;
           },
         )

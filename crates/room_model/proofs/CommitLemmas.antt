@@ -17,7 +17,8 @@ use Rattle.room_model.specs.Rooms.{Phase, new, asked, live, ended, gone, Session
 use Rattle.room_model.specs.declared.history.Author.{Author}
 use Rattle.room_model.specs.declared.history.Entry.{Entry}
 use Rattle.room_model.proofs.AcceptLemmas.{is_commit}
-use Rattle.room_model.proofs.ActingLemmas.{left, filter_all, filter-with_key, presence_apart, all-accepted, fit_documents}
+use Rattle.room_model.proofs.ActingLemmas.{filter_all, filter-with_key, presence_apart, all-accepted, fit_documents}
+use Rattle.rooms_val.proofs.Truths.{and_left}
 use Rattle.room_model.proofs.CallLemmas.{Moves, stays, asks, answered, updated, closes, Goes, member_of, pushed_by, step_keeps, everywhere}
 use Rattle.room_model.proofs.ClosingLemmas.{set_at_place, set_elsewhere, by_number}
 
@@ -120,7 +121,7 @@ module _ (schemas : Schemas) where
         elim member.readonly as (λ b. (b || is_fit schemas member.plan push.diff) ≡ true → list_all (λ c. schemas.is_document c.0) (cond b [] (accept_ops schemas member.plan m push.diff)) ≡ true) [
           | true ↦ λ fit. refl
           | false ↦ λ fit. all-accepted schemas member.plan schemas.is_document m push.diff (fit_documents schemas member.plan push.diff fit)
-        ] (left _ _ taken) in
+        ] (and_left _ _ taken) in
         let nothing_of : document_part schemas member m [] ≡ [] = elim member.readonly as (λ b. cond {A = RecordOps} b [] [] ≡ []) [ true ↦ refl | false ↦ refl ] in
         document_added member.session part (option_and_then (presence_part schemas member m) push.presence) documents
         ∙ elim (is_commit schemas member m push.diff (ap (λ a. a.action) same ∙ commit)) [
@@ -147,7 +148,7 @@ module _ (schemas : Schemas) where
               subst (λ a. IsCommitOf plan (document_ops schemas (added part (presence_id n) o)) a.action) same
               (subst (λ ops. IsCommitOf plan ops (action_of plan push.diff part)) (sym (document_added n part o documents))
               (action_commits plan push.diff part (λ none. ap (λ diff. accept_ops schemas plan m diff) none)))
-        ] (left _ _ taken) by
+        ] (and_left _ _ taken) by
 
     pushed_commits : (room : Room) (n : ℕ) (s : Session) (sent : ℕ) (plan : Plan) (push : Push) → slice_get room.sessions n ≡ Some s → s.phase ≡ live sent plan
         → is_taken schemas (member_of n s plan) push ≡ true → Committed room → Committed (record room { history = pushed_by schemas room n s plan push ∷ room.history })

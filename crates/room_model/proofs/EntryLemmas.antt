@@ -13,7 +13,8 @@ use Rattle.room_model.specs.Naming.{IsNamedBy, AllNamed}
 use Rattle.room_model.specs.Reachable.{Reachable}
 use Rattle.room_model.specs.Rooms.{Session, Room, after_enter}
 use Rattle.room_model.proofs.BegunLemmas.{beginning_acts, beginning_named}
-use Rattle.room_model.proofs.ActingLemmas.{or_left, or_right, all-imp, own_itself, left, right, both, all-with_key, presence_apart, all-accepted, fit_documents, push_acts, removal_acts}
+use Rattle.room_model.proofs.ActingLemmas.{all-imp, own_itself, all-with_key, presence_apart, all-accepted, fit_documents, push_acts, removal_acts}
+use Rattle.rooms_val.proofs.Truths.{or_left, or_right, and_left, and_true}
 use Rattle.room_model.proofs.CallLemmas.{member_of, pushed_by, step_keeps, TakenRises, push_rises, everywhere}
 
 -- every entry acts
@@ -73,12 +74,12 @@ module _ (schemas : Schemas) where
       elim s.readonly as (λ b. (b || is_fit schemas plan push.diff) ≡ true → list_all (λ c. schemas.is_document c.0 || is_own n c.0) (added (cond b [] part) (presence_id n) o) ≡ true) [
         | true ↦ λ fit. names_added n [] o refl
         | false ↦ λ fit. names_added n part o (all-accepted schemas plan schemas.is_document m push.diff (fit_documents schemas plan push.diff fit))
-      ] (left _ _ taken)
+      ] (and_left _ _ taken)
 
   module _ (lawful : AreLawful schemas) where
     none_added : (n : ℕ) (o : Option RecordOpTree) → list_all (λ c. not (schemas.is_document c.0)) (added [] (presence_id n) o) ≡ true
     none_added n None = refl
-    none_added n (Some d) = both _ _ (ap not (presence_apart schemas lawful n)) refl
+    none_added n (Some d) = and_true _ _ (ap not (presence_apart schemas lawful n)) refl
 
     pushed_names : (room : Room) (n : ℕ) (s : Session) (plan : Plan) (push : Push) → slice_get room.sessions n ≡ Some s → is_taken schemas (member_of n s plan) push ≡ true
         → IsNamedBy schemas room.sessions n (pushed_by schemas room n s plan push).diff

@@ -4,6 +4,7 @@ use Rattle.std.specs.List.{list_all}
 use Rattle.std.specs.Ordering.{is_lt}
 use Rattle.std.specs.FinMap.Entries.{is_sorted, below_all, find-where_key, is_sorted-where_key}
 use Rattle.std.proofs.lemmas.Bool.Decides.{nat_tests}
+use Rattle.rooms_val.proofs.Truths.{and_false, and_left, and_right}
 use Rattle.rooms_val.specs.Data.{Pairs}
 use Rattle.rooms_val.specs.Maps.{order, ties, AreRising, value_at, with_key, set_at}
 use Rattle.rooms_val.proofs.MapsLemmas.{same_key, ties_same, by_tie, at-with_key, at-set_at, rising-with_key, rising_rest, none_later}
@@ -11,7 +12,7 @@ use Rattle.field_ops.specs.RecordOps.{RecordOps}
 use Rattle.field_ops.specs.Patched.{raw}
 use Rattle.doc_model.specs.Documents.{fold_raw}
 use Rattle.room_model.specs.Histories.{History, records_of, oldest, names, last_clock, last_clocks, changed_after}
-use Rattle.room_model.proofs.ActingLemmas.{left, right, differ}
+use Rattle.room_model.proofs.ActingLemmas.{differ}
 
 -- an id is one of a list
 abbrev pub has : List ℕ → List (List ℕ) → Bool
@@ -34,8 +35,8 @@ module _ {V : Type 0} where
   all_at test [] q v all found = absurd (cc)
   all_at test (e ∷ es) q v all found =
       elim (ties q e.0) as (λ b. ties q e.0 ≡ b → cond b (Some e.1) (value_at es q) ≡ Some v → test q v ≡ true) [
-        | true ↦ λ is at. let same : e.1 ≡ v = cc in ap (λ k. test k v) (ties_same q e.0 is) ∙ ap (test e.0) (sym same) ∙ left _ _ all
-        | false ↦ λ is at. all_at test es q v (right _ _ all) at
+        | true ↦ λ is at. let same : e.1 ≡ v = cc in ap (λ k. test k v) (ties_same q e.0 is) ∙ ap (test e.0) (sym same) ∙ and_left _ _ all
+        | false ↦ λ is at. all_at test es q v (and_right _ _ all) at
       ] refl found
 
   -- nothing stands under a key that doesn't pass a test that all keys pass
@@ -106,11 +107,7 @@ unnamed (c ∷ diff) m q none =
       | false ↦ λ is at. unnamed diff next q at ∙ at-set_at m c.0 q (raw c.1 (value_at m c.0)) ∙ ap (λ b. cond b (raw c.1 (value_at m c.0)) (value_at m q)) is
     ] refl none
 
-and_false : (a : Bool) → a && false ≡ false
-and_false true = refl
-and_false false = refl
-
-or_assoc : (a b c : Bool) → (a || b) || c ≡ a || (b || c)
+pub or_assoc : (a b c : Bool) → (a || b) || c ≡ a || (b || c)
 or_assoc true b c = refl
 or_assoc false b c = refl
 

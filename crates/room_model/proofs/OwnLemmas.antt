@@ -13,7 +13,8 @@ use Rattle.room_model.specs.Naming.{action_diff, event_diff, names_others, tells
 use Rattle.room_model.specs.Rooms.{Phase, new, asked, live, ended, gone, Session, Room, session_at, Given, pong, updates_between, pong_or, next_in, next_for}
 use Rattle.room_model.specs.declared.history.Author.{Author}
 use Rattle.room_model.specs.declared.limits.TheConstants.{MOST_TOLD}
-use Rattle.room_model.proofs.ActingLemmas.{left, right, both, differ, all-with_key, presence_apart}
+use Rattle.room_model.proofs.ActingLemmas.{differ, all-with_key, presence_apart}
+use Rattle.rooms_val.proofs.Truths.{and_left, and_right, and_true}
 use Rattle.room_model.proofs.CallLemmas.{member_of, chained}
 use Rattle.sync_msgs.specs.declared.data_event.Action.{Action}
 use Rattle.sync_msgs.specs.declared.data_event.Action.TheVariants.{Commit, Discard, Rebase}
@@ -27,12 +28,12 @@ module _ {X : Type 0} where
   all-filter : (test keep : X → Bool) → ((x : X) → keep x ≡ true → test x ≡ true) → (xs : List X) → list_all test (filter keep xs) ≡ true
   all-filter test keep passes [] = refl
   all-filter test keep passes (x ∷ xs) = elim (keep x) as (λ b. keep x ≡ b → list_all test (cond b (x ∷ filter keep xs) (filter keep xs)) ≡ true) [
-    | true ↦ λ is. both _ _ (passes x is) (all-filter test keep passes xs)
+    | true ↦ λ is. and_true _ _ (passes x is) (all-filter test keep passes xs)
     | false ↦ λ is. all-filter test keep passes xs
   ] refl
 
   all-joined : (test : X → Bool) (xs ys : List X) → list_all test xs ≡ true → list_all test ys ≡ true → list_all test (xs ++ ys) ≡ true
-  all-joined test xs ys p q = list_all-append test xs ys ∙ both _ _ p q
+  all-joined test xs ys p q = list_all-append test xs ys ∙ and_true _ _ p q
 
 -- diffs whose ids all pass a test
 module _ (test : List ℕ → Bool) where
@@ -42,12 +43,12 @@ module _ (test : List ℕ → Bool) where
   fold_passes : (op : List ℕ → RecordOpTree) (ids : List (List ℕ)) (diff : RecordOps) → list_all test ids ≡ true → passes diff → passes (fold (λ diff id. with_key diff id (op id)) diff ids)
   fold_passes op [] diff all h = h
   fold_passes op (id ∷ ids) diff all h =
-      fold_passes op ids (with_key diff id (op id)) (right _ _ all) (all-with_key (λ c. test c.0) diff id (op id) h (left _ _ all))
+      fold_passes op ids (with_key diff id (op id)) (and_right _ _ all) (all-with_key (λ c. test c.0) diff id (op id) h (and_left _ _ all))
 
   puts_pass : (f : Data → Data) (m : Pairs) (diff : RecordOps) → list_all (λ p. test p.0) m ≡ true → passes diff → passes (fold (λ d p. with_key d p.0 (put (f p.1))) diff m)
   puts_pass f [] diff all h = h
   puts_pass f (p ∷ m) diff all h =
-      puts_pass f m (with_key diff p.0 (put (f p.1))) (right _ _ all) (all-with_key (λ c. test c.0) diff p.0 (put (f p.1)) h (left _ _ all))
+      puts_pass f m (with_key diff p.0 (put (f p.1))) (and_right _ _ all) (all-with_key (λ c. test c.0) diff p.0 (put (f p.1)) h (and_left _ _ all))
 
 module _ (schemas : Schemas) (lawful : AreLawful schemas) where
   -- an id of the document is no presence's
@@ -67,7 +68,7 @@ module _ (schemas : Schemas) (lawful : AreLawful schemas) where
         let as_told : List ℕ × RecordOpTree → List ℕ × RecordOpTree = λ c. (c.0, told_op schemas member.plan m c.0 c.1) in
         elim (is_own member.session c.0) as (λ b. is_own member.session c.0 ≡ b → names_others member.session (map as_told (cond (not b) (c ∷ except_own member.session diff) (except_own member.session diff))) ≡ true) [
           | true ↦ λ is. told_others m diff
-          | false ↦ λ is. both _ _ (ap not is) (told_others m diff)
+          | false ↦ λ is. and_true _ _ (ap not is) (told_others m diff)
         ] refl
 
     action_others : (m : Pairs) (action : Action) → names_others member.session (action_diff (told_action schemas member m action)) ≡ true
@@ -95,7 +96,7 @@ module _ (schemas : Schemas) (lawful : AreLawful schemas) where
         elim (nat_lt (length history) sent) as (λ b. list_all is_other (cond b [] (before ++ event ∷ [])) ≡ true) [
           | true ↦ refl
           | false ↦ all-joined is_other before (event ∷ []) (events_others sent history)
-              (both _ _ (event_others (records_of (entry ∷ history)) (suc (length history)) entry.diff entry.author) refl)
+              (and_true _ _ (event_others (records_of (entry ∷ history)) (suc (length history)) entry.diff entry.author) refl)
         ]
 
     bare_other : (clock : ℕ) (author : Option Author) → list_all is_other (bare_result schemas member clock author) ≡ true
@@ -117,7 +118,7 @@ module _ (schemas : Schemas) (lawful : AreLawful schemas) where
         elim (nat_le (clock - sent) MOST_TOLD) as (λ b. list_all is_other (cond b (events_after schemas member sent history) (catch_up schemas member sent history)) ≡ true) [
           | true ↦ events_others sent history
           | false ↦ all-joined is_other (bare_results schemas member clock (above sent history)) _ (bare_others clock (above sent history))
-              (both _ _ (changes_others (λ id. not (is_own member.session id)) sent history (λ id is. is)) refl)
+              (and_true _ _ (changes_others (λ id. not (is_own member.session id)) sent history (λ id is. is)) refl)
         ]
 
     document_others : (known : Option ℕ) (history : History) → names_others member.session (document_diff schemas member.plan known history) ≡ true

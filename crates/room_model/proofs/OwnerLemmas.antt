@@ -14,7 +14,8 @@ use Rattle.room_model.specs.Histories.{records_of}
 use Rattle.room_model.specs.Accepting.{Push, is_taken}
 use Rattle.room_model.specs.Reachable.{is_over, HasOwner, ArePresencesOwned}
 use Rattle.room_model.specs.Rooms.{Phase, new, live, ended, Session, Room, new_room, after_enter, with_session, is_present, removal, close, close_slow, first_slow, without_slow, end_slow, after_close}
-use Rattle.room_model.proofs.ActingLemmas.{left, right, differ}
+use Rattle.room_model.proofs.ActingLemmas.{differ}
+use Rattle.rooms_val.proofs.Truths.{and_left, and_right}
 use Rattle.room_model.proofs.CallLemmas.{Step, nothing, enters, goes, ends, pushes, member_of, pushed_by}
 use Rattle.room_model.proofs.ClosingLemmas.{set_at_place, set_elsewhere, by_number}
 use Rattle.room_model.proofs.EntryLemmas.{found_added, push_names}
@@ -61,13 +62,13 @@ named_or_there : (schemas : Schemas) (n : ℕ) (id : List ℕ) (diff : RecordOps
 named_or_there schemas n id [] m scope names there = inr there
 named_or_there schemas n id (c ∷ diff) m scope names there =
     let made = raw c.1 (value_at m c.0) in
-    elim (named_or_there schemas n id diff (set_at m c.0 made) scope (right _ _ names) there) [
+    elim (named_or_there schemas n id diff (set_at m c.0 made) scope (and_right _ _ names) there) [
       | inl own ↦ inl own
       | inr later ↦
           elim (ties id c.0) as (λ b. ties id c.0 ≡ b → is_some (cond b made (value_at m id)) ≡ true → (id ≡ presence_id n) ⊎ (is_some (value_at m id) ≡ true)) [
             | true ↦ λ is some.
                 let same = ties_same id c.0 is in
-                let here : (schemas.is_document id || is_own n id) ≡ true = subst (λ k. (schemas.is_document k || is_own n k) ≡ true) (sym same) (left _ _ names) in
+                let here : (schemas.is_document id || is_own n id) ≡ true = subst (λ k. (schemas.is_document k || is_own n k) ≡ true) (sym same) (and_left _ _ names) in
                 let own : is_own n id ≡ true = sym (ap (λ b. b || is_own n id) scope) ∙ here in
                 inl ((bytes_eq-Decides id (presence_id n)).0 own)
             | false ↦ λ is some. inr some

@@ -27,7 +27,8 @@ use Rattle.room_model.specs.Taking.{Replica, first_diff, result_diff, after_even
 use Rattle.room_model.specs.declared.history.Author.{Author}
 use Rattle.room_model.specs.declared.history.Entry.{Entry}
 use Rattle.room_model.specs.declared.limits.TheConstants.{MOST_TOLD}
-use Rattle.room_model.proofs.ActingLemmas.{left, right, both, differ, presence_apart}
+use Rattle.room_model.proofs.ActingLemmas.{differ, presence_apart}
+use Rattle.rooms_val.proofs.Truths.{and_left, and_right, and_true}
 use Rattle.room_model.proofs.BaseLemmas.{rising-records, at-seen_with, rising-seen_with, at-changes, rising-changes, state_after}
 use Rattle.room_model.proofs.LookUpLemmas.{at-filter, rising-filter, at-mapped, rising-mapped, all_at, none_at, none_below, kept_at}
 use Rattle.sync_msgs.specs.declared.data_event.Action.{Action}
@@ -262,8 +263,8 @@ module _ (schemas : Schemas) (lawful : AreLawful schemas) (member : Member) wher
     last_unscoped : (history : History) (q : List ℕ) → list_all (λ entry. is_scoped schemas entry) history ≡ true → schemas.is_document q || schemas.is_presence q ≡ false → last_clock history q ≡ 0
     last_unscoped [] q scoped out = refl
     last_unscoped (entry ∷ history) q scoped out =
-        ap (λ o. cond (is_some o) (suc (length history)) (last_clock history q)) (none_at (λ id. schemas.is_document id || schemas.is_presence id) entry.diff q (left _ _ scoped) out)
-        ∙ last_unscoped history q (right _ _ scoped) out
+        ap (λ o. cond (is_some o) (suc (length history)) (last_clock history q)) (none_at (λ id. schemas.is_document id || schemas.is_presence id) entry.diff q (and_left _ _ scoped) out)
+        ∙ last_unscoped history q (and_right _ _ scoped) out
 
     -- what a catch-up makes of an id: whether it is the document's, a presence's and the session's own, and has changed since
     caught_at : (d p own later : Bool) (f : Data → Data) (q : List ℕ) (c : RecordOpTree) (old v : Option Data) → ((r : Option Data) → record_after admits q (Some c) r ≡ option_map f v)
@@ -305,7 +306,7 @@ module _ (schemas : Schemas) (lawful : AreLawful schemas) (member : Member) wher
 
     all_scoped : (history : History) → AllActing schemas history → list_all (λ entry. is_scoped schemas entry) history ≡ true
     all_scoped [] acts = refl
-    all_scoped (entry ∷ history) acts = both _ _ acts.0.scoped (all_scoped history acts.1)
+    all_scoped (entry ∷ history) acts = and_true _ _ acts.0.scoped (all_scoped history acts.1)
 
     pub updated : AdmitsSame schemas member.plan admits → (sent : ℕ) (history : History) (items : List Pending) (events : List DataEvent) → AllActing schemas history
         → AllCommit schemas member.session member.plan history → AreAnswered schemas member.session items (above sent history)

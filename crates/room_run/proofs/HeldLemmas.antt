@@ -19,13 +19,11 @@ use Rattle.sync_msgs.specs.declared.client_message.ClientMessage.{ClientMessage}
 use Rattle.sync_msgs.specs.declared.out.Out.{Out}
 use Rattle.sync_room.specs.Standing.{Stands, Replies, Drains, Leaves, tree_of}
 use Rattle.sync_room.specs.declared.room.Room.{Room}
+use Rattle.rooms_val.proofs.Truths.{none_some}
 
 is_free : (b : Bool) (room : model.Room) → cond b None (Some room) ≡ Some room → b ≡ false
 is_free true room e = absurd (cc)
 is_free false room e = refl
-
-none≢some : {X : Type 0} (x : X) → None ≡ Some x → ⊥
-none≢some x e = cc
 
 -- each call of the room is an event that happens
 module _ (schemas : Schemas) (state : model.Room) (number : ℕ) where
@@ -40,7 +38,7 @@ module _ (schemas : Schemas) (state : model.Room) (number : ℕ) where
 
   pub drain_happens : (session : model.Session) (out : Out) (room : Room) (o : Option Given) → session_at number state ≡ Some session → next_for schemas state number ≡ o → Drains state number o (Some out) room
       → (after : model.Room) × Happens schemas state (Drain number (Some out)) after × Stands after room
-  drain_happens session out room None here is drains = absurd (none≢some out (sym drains.0))
+  drain_happens session out room None here is drains = absurd (none_some out (sym drains.0))
   drain_happens session out room (Some given) here is drains = (
     after_drain state number given,
     ((ap is_some here, ap (option_map (λ g. g.out)) is ∙ sym drains.0), ap (λ o. option_map_or (λ g. after_drain state number g) o state) is),
@@ -49,7 +47,7 @@ module _ (schemas : Schemas) (state : model.Room) (number : ℕ) where
 
   pub nothing_drained : (room : Room) (o : Option Given) → next_for schemas state number ≡ o → Drains state number o None room → (next_for schemas state number ≡ None) × Stands state room
   nothing_drained room None is drains = (is, drains.1)
-  nothing_drained room (Some given) is drains = absurd (none≢some given.out drains.0)
+  nothing_drained room (Some given) is drains = absurd (none_some given.out drains.0)
 
   nothing_happens : (session : model.Session) → session_at number state ≡ Some session → next_for schemas state number ≡ None → Happens schemas state (Drain number None) state
   nothing_happens session here is = ((ap is_some here, ap (option_map (λ g. g.out)) is), ap (λ o. option_map_or (λ g. after_drain state number g) o state) is)

@@ -1,5 +1,5 @@
 -- Each kind of step keeps the rule of a running room's table.
-use Rattle.std.proofs.Common.{◌≡◌, ◌≢◌, ◌⊎◌, ℕ, ◌+◌, ◌%◌, ◌^◌, ◌<◌, eqb, Bool, true, false, true≢false, List, [], ◌∷◌, ◌++◌, length, drop, set, get_or, Option, Some, None, refl, sym, ap, ◌∙◌, subst, inl, inr, ⊎_elim, arith, append-nil, length-append, mod-eq_of_lt}
+use Rattle.std.proofs.Common.{◌≡◌, ◌≢◌, ◌⊎◌, ℕ, ◌+◌, ◌%◌, ◌^◌, ◌<◌, eqb, true, false, true≢false, List, [], ◌∷◌, ◌++◌, length, drop, set, get_or, Option, Some, None, refl, sym, ap, ◌∙◌, subst, inl, inr, ⊎_elim, arith, append-nil, length-append, mod-eq_of_lt}
 use mathlib.Core.List.{IsPrefix}
 use mathlib.Core.Logic.{dite}
 use mathlib.Core.Option.{some, none, some-injective, some-ne-none}
@@ -19,6 +19,7 @@ use Rattle.room_run.specs.declared.views.Story.{Story}
 use Rattle.room_run.specs.declared.views.View.{View}
 use Rattle.room_run.proofs.PlaceLemmas.{each, set_at, each_push}
 use Rattle.room_run.proofs.FitLemmas.{comes, changes, adds, takes_in}
+use Rattle.rooms_val.proofs.Truths.{not_so}
 
 abbrev Slots : Type 0
 Slots = List (ℕ × Option Story)
@@ -26,10 +27,6 @@ Slots = List (ℕ × Option Story)
 -- each view that is of some room is of this one
 abbrev AreOurs : Opening → List View → Type 0
 AreOurs opening views = (k : ℕ) (v : View) → get_elem? views k ≡ some v → (other : Opening) → v.opening ≡ Some other → other ≡ opening
-
-not_true : (b : Bool) → (b ≡ true → ⊥) → b ≡ false
-not_true true isnt = absurd (isnt refl)
-not_true false isnt = refl
 
 no_place : (v : View) (k : ℕ) → get_elem? [] k ≡ some v → ⊥
 no_place v k e = some-ne-none v (sym e)
@@ -205,7 +202,7 @@ module _ (opening : Opening) where
           turn = inl (record {
             words = ap (λ ws. set ws 1 0) t.words;
             home = ap (put_back s.homes) slot ∙ (ap (λ hs. set hs 0 (some (Some now))) t.home ∙ ap (λ x. some (Some x) ∷ []) is);
-            nobody = each (λ k u. u.turn ≡ false) s.views id w (λ k u other e. not_true u.turn (λ is. other (t.alone k u e is))) refl;
+            nobody = each (λ k u. u.turn ≡ false) s.views id w (λ k u other e. not_so u.turn (λ is. other (t.alone k u e is))) refl;
           });
           views = changes kept.pen s.views kept.views id me.0 at false me.0.seen (kept.views.fits id me.0 at).begins;
           ours = still_ours s kept id me.0 w at refl;

@@ -1,5 +1,5 @@
 -- What a seat knows once it has made more events, and of whose session they are.
-use Rattle.std.proofs.Common.{◌≡◌, ◌≢◌, ◌⊎◌, ℕ, Bool, true, false, ◌||◌, List, [], ◌∷◌, ◌++◌, map, Option, Some, None, Result, Ok, Err, IfOk, OnErr, refl, sym, ap, ◌∙◌, subst, inl, inr, ⊎_elim, append_assoc, append-nil}
+use Rattle.std.proofs.Common.{◌≡◌, ◌≢◌, ◌⊎◌, ℕ, Bool, true, false, ◌||◌, List, [], ◌∷◌, ◌++◌, map, Option, Some, None, IfOk, refl, sym, ap, ◌∙◌, subst, inl, inr, ⊎_elim, append_assoc, append-nil}
 use Rattle.std.proofs.lemmas.List.{map-append}
 use Rattle.std.specs.List.{list_any}
 use Rattle.room_events.specs.Events.{session_of, events_of, number_of, is_leave, has_leave}
@@ -68,10 +68,6 @@ all_after number before after held next e ready is same added =
     let longer' : next.pen ≡ before.0.seen ++ e ∷ [] = ap (λ (s : Story). s.pen) is ∙ ap (λ l. l ++ e ∷ []) (sym ready.0.2) in
     let more = added e longer' in
     ap (events_of number) more.1 ∙ (same_events number before.0.seen e same ∙ (ap (λ l. l ++ e ∷ []) ready.1.all ∙ sym more.2))
-
-pub on_err : {A E : Type 0} (r : Result A E) (P Q : Type 0) → OnErr r P → (P → Q) → OnErr r Q
-on_err (Ok a) P Q h f = tt
-on_err (Err e) P Q h f = f h
 
 pub idle_given : (number : ℕ) (outs : List Out) → (outs ≡ [] → ⊥) → given_idle number outs ≡ given_all number outs
 idle_given number [] some = absurd (some refl)

@@ -10,6 +10,7 @@ use Rattle.room_serve.specs.Reports.{IsReport, WasIn, session_of}
 use Rattle.room_serve.specs.declared.report.Report.{Report}
 use Rattle.room_server.specs.Closing.{gone_in, gones_in, has_number, without_gone}
 use Rattle.room_server.specs.Hosted.{is_of}
+use Rattle.rooms_val.proofs.Truths.{not_so}
 
 -- who is gone had the session
 abbrev pub is_session : ℕ → Gone → Bool
@@ -23,11 +24,6 @@ number_is n (Some other) is = ap Some (eqb-true other n is)
 -- how many there are by one and the others
 counts : {X : Type 0} (p : X → Bool) (x : X) (xs : List X) → count_by p (x ∷ xs) ≡ cond (p x) 1 0 + count_by p xs
 counts p x xs = sum_by-cons (λ y. cond (p y) 1 0) x xs
-
--- what isn't true is false
-not_so : (b : Bool) → (b ≡ true → ⊥) → b ≡ false
-not_so true never = absurd (never refl)
-not_so false never = refl
 
 -- none, where none is so
 none_so : {X : Type 0} (p : X → Bool) (xs : List X) → ((place : ℕ) (x : X) → slice_get xs place ≡ Some x → p x ≡ false) → count_by p xs ≡ 0

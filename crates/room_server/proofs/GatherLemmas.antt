@@ -37,11 +37,6 @@ set_others (x ∷ xs) zero (suc k) a other = refl
 set_others (x ∷ xs) (suc n) zero a other = refl
 set_others (x ∷ xs) (suc n) (suc k) a other = set_others xs n k a (λ same. other (ap suc same))
 
--- a list without an element
-pub nothing_left : {X : Type 0} (xs : List X) → length xs ≡ 0 → xs ≡ []
-nothing_left [] none = refl
-nothing_left (x ∷ xs) none = absurd (omega arith)
-
 -- no report adds nobody
 pub adds_nobody : (gones : List (Vec Gone)) → AddsGone [] gones gones
 adds_nobody gones = record {

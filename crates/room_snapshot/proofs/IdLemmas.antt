@@ -3,6 +3,7 @@ use Rattle.std.proofs.Common.{◌≡◌, ℕ, zero, suc, ◌+◌, ◌<◌, Bool,
 use Rattle.std.specs.Option.{option_map_or, IsSomeAnd}
 use Rattle.std.proofs.lemmas.List.{map-append}
 use Rattle.std.proofs.lemmas.List.Folds.{list_any-append}
+use Rattle.rooms_val.proofs.Truths.{or_false}
 use Rattle.rooms_val.specs.Data.{Data}
 use Rattle.rooms_val.specs.Maps.{ties}
 use Rattle.rooms_val.proofs.MapsLemmas.{ties_flip, order_itself}
@@ -12,10 +13,6 @@ use Rattle.room_snapshot.specs.Saved.{document_view, documents_view, records_of}
 use Rattle.room_model.specs.declared.saved.SavedRecord.{SavedRecord}
 use Rattle.rooms_val.specs.View.{data_of}
 use Rattle.room_snapshot.proofs.DocumentLemmas.{documents_view-take}
-
-pub neither : (a b : Bool) → (a || b) ≡ false → (a ≡ false) × (b ≡ false)
-neither true b is = cc
-neither false b is = (refl, is)
 
 pub not_both : {A : Type 0} (b : Bool) → b ≡ true → b ≡ false → A
 not_both b is isnt = absurd (let it : true ≡ false = sym is ∙ isnt in cc)
@@ -40,7 +37,7 @@ head_more (Some i) ds d id is none apart =
 pub ids_more : (ds : List Data) (d : Data) (id : List ℕ) → HaveIds ds → id_in d ≡ Some id → has_id ds id ≡ false → HaveIds (ds ++ d ∷ [])
 ids_more [] d id have is none = (subst (λ o. IsSomeAnd o (λ i. has_id [] i ≡ false)) (sym is) refl, tt)
 ids_more (x ∷ ds) d id have is none =
-    let apart = neither (is_of id x) (has_id ds id) none in
+    let apart = or_false (is_of id x) (has_id ds id) none in
     (head_more (id_in x) ds d id is have.0 apart.0, ids_more ds d id have.1 is apart.1)
 
 some_else : {X : Type 0} (o : Option X) (P Q : X → Type 0) → ((x : X) → P x → Q x) → IsSomeAnd o P → IsSomeAnd o Q
@@ -52,8 +49,8 @@ head_apart : (x bad : Data) (before after : List Data) (p o : Option (List ℕ))
 head_apart x bad before after None o bad_is x_is none rest = rest
 head_apart x bad before after (Some id) None bad_is x_is none rest = absurd none
 head_apart x bad before after (Some id) (Some i) bad_is x_is none rest =
-    let here = neither (has_id before i) (is_of i bad || has_id after i) (sym (list_any-append (is_of i) before (bad ∷ after)) ∙ none) in
-    let apart : ties i id ≡ false = sym (ap (λ q. option_map_or (λ own. ties i own) q false) bad_is) ∙ (neither (is_of i bad) (has_id after i) here.1).0 in
+    let here = or_false (has_id before i) (is_of i bad || has_id after i) (sym (list_any-append (is_of i) before (bad ∷ after)) ∙ none) in
+    let apart : ties i id ≡ false = sym (ap (λ q. option_map_or (λ own. ties i own) q false) bad_is) ∙ (or_false (is_of i bad) (has_id after i) here.1).0 in
     let other : is_of id x ≡ false = ap (λ q. option_map_or (λ own. ties id own) q false) x_is ∙ ties_flip id i ∙ apart in
     ap (λ b. b || has_id before id) other ∙ rest
 

@@ -1,6 +1,7 @@
 -- Each value is that of one saved room at most, and what refuses a line.
 use Rattle.std.proofs.Common.{◌≡◌, ◌≤◌, ℕ, ℤ, pos, List, [], ◌∷◌, Result, Ok, Err, IfOk, IfErr, MatchResult, length, refl, sym, ap, ◌∙◌, arith}
 use Rattle.std.specs.Prelude as std
+use Rattle.rooms_val.proofs.Truths.{one_ok, ok_not_err}
 use Rattle.rooms_val.specs.Data.{Data, Pairs, null, whole, map, members_of}
 use Rattle.rooms_val.specs.Json.{value_of}
 use Rattle.rooms_val.specs.Maps.{AreRising, seen}
@@ -56,21 +57,15 @@ one_room s t a b s_rises t_rises same =
     let tombs : s.tombstones ≡ t.tombstones = same_rising s.tombstones t.tombstones s_rises t_rises (ap (λ ps. first (rest (rest (rest (rest ps))))) is) in
     ((λ i. record { clock = clock i; start = start i; documents = documents i; tombstones = tombs i }), held)
 
-ok_same : {T E : Type 0} (r : Result T E) (x y : T) → r ≡ Ok x → r ≡ Ok y → x ≡ y
-ok_same r x y is_x is_y = let is : Ok x ≡ Ok y = sym is_x ∙ is_y in cc
-
-no_ok : {T E : Type 0} {A : Type 0} (r : Result T E) (x : T) (e : E) → r ≡ Ok x → r ≡ Err e → A
-no_ok r x e is_ok is_err = absurd (let is : Ok x ≡ Err e = sym is_ok ∙ is_err in cc)
-
 pub reads_line : (bytes : List ℕ) (r : Result Snapshot SnapFault) → IfOk r (λ x. IsLine bytes (saved_tree x.saved) x.held) → IfErr r (RefusesLine bytes)
     → (s : SavedTree) (held : Versions) → IsLine bytes s held
     → MatchResult r (λ x. (saved_tree x.saved ≡ s) × (x.held ≡ held)) (λ f. f ≡ fault.OutOfMemory)
 reads_line bytes (Ok x) found refused s held is =
-    one_room (saved_tree x.saved) s x.held held found.rising is.rising (ok_same (value_of bytes) (line_val (saved_tree x.saved) x.held) (line_val s held) found.value is.value)
+    one_room (saved_tree x.saved) s x.held held found.rising is.rising (one_ok (value_of bytes) (line_val (saved_tree x.saved) x.held) (line_val s held) found.value is.value)
 reads_line bytes (Err fault.LineTooLong) found refused s held is = absurd (omega (arith, refused, is.short))
-reads_line bytes (Err (fault.Val f)) found refused s held is = no_ok (value_of bytes) (line_val s held) f is.value refused.1
+reads_line bytes (Err (fault.Val f)) found refused s held is = ok_not_err (value_of bytes) (line_val s held) f is.value refused.1
 reads_line bytes (Err fault.Shape) found refused s held is =
-    absurd (refused.3 s held (ok_same (value_of bytes) refused.1 (line_val s held) refused.2 is.value))
+    absurd (refused.3 s held (one_ok (value_of bytes) refused.1 (line_val s held) refused.2 is.value))
 reads_line bytes (Err fault.OutOfMemory) found refused s held is = refl
 
 -- a line that is no value is refused as the value is

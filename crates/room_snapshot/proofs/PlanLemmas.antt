@@ -2,6 +2,7 @@
 use Rattle.std.proofs.Common.{◌≡◌, ℕ, ◌+◌, ◌<◌, ℤ, List, [], ◌∷◌, ◌++◌, Result, Ok, Err, IsErrAnd, length, get_or, take, refl, sym, ap, subst, ◌∙◌}
 use Rattle.std.specs.Result.{result_map_both}
 use Rattle.std.proofs.lemmas.List.{map-append, take_more}
+use Rattle.rooms_val.proofs.Truths.{one_ok}
 use Rattle.rooms_val.specs.Answers.{Gives}
 use Rattle.rooms_val.specs.Data.{Data}
 use Rattle.rooms_val.specs.View.{data_of, pairs_view}
@@ -38,9 +39,6 @@ pub gives_err : (r : Result SavedRoom PlanFault) (e : PlanFault) (defined : Resu
 gives_err (Ok x) e defined is gives = absurd is
 gives_err (Err f) e defined is gives = λ other. gives (λ e_is. other (is ∙ e_is)) ∙ ap Err (sym is)
 
-ok_same : {T E : Type 0} (r : Result T E) (x y : T) → r ≡ Ok x → r ≡ Ok y → x ≡ y
-ok_same r x y is_x is_y = let is : Ok x ≡ Ok y = sym is_x ∙ is_y in cc
-
 module _ (seqs : List Sequence) (held : Versions) (s : SavedTree) where
   pub raised_err : (e : PlanFault) → plan_answer seqs held ≡ Err e → raised seqs held s ≡ Err e
   raised_err e is = ap (result_map_both (raised_by seqs s) (λ fault. fault)) is
@@ -57,12 +55,12 @@ module _ (seqs : List Sequence) (held : Versions) (s : SavedTree) where
 
   pub none_run : (A : Place → List Place → Type 0) (places : List Place) → plan_answer seqs held ≡ Ok places → places ≡ [] → (first : Place) (rest : List Place) → plan_answer seqs held ≡ Ok (first ∷ rest) → A first rest
   none_run A places is none first rest run =
-      absurd (let same : first ∷ rest ≡ [] = ok_same (plan_answer seqs held) (first ∷ rest) places run is ∙ none in cc)
+      absurd (let same : first ∷ rest ≡ [] = one_ok (plan_answer seqs held) (first ∷ rest) places run is ∙ none in cc)
 
   pub each_run : (after : SavedTree) (places : List Place) → HaveIds (records_of s.documents) → plan_answer seqs held ≡ Ok places → after ≡ raised_along_all (migrations_at seqs places) s
       → (first : Place) (rest : List Place) → plan_answer seqs held ≡ Ok (first ∷ rest) → AreRaised (migrations_at seqs (first ∷ rest)) (next_clock s) s.documents after.documents
   each_run after places have is after_is first rest run =
-      let places_are : places ≡ first ∷ rest = ok_same (plan_answer seqs held) places (first ∷ rest) is run in
+      let places_are : places ≡ first ∷ rest = one_ok (plan_answer seqs held) places (first ∷ rest) is run in
       subst (λ (t : SavedTree). AreRaised (migrations_at seqs (first ∷ rest)) (next_clock s) s.documents t.documents)
       (sym (after_is ∙ ap (λ ps. raised_along_all (migrations_at seqs ps) s) places_are))
       (are_raised (migrations_at seqs (first ∷ rest)) (next_clock s) s.documents have)

@@ -1,5 +1,5 @@
 -- Records by id, and what becomes of each record.
-use Rattle.std.proofs.Common.{◌≡◌, ℕ, ◌+◌, ◌<◌, ℤ, Bool, true, false, ◌||◌, cond, List, [], ◌∷◌, ◌++◌, fold, Option, Some, None, Ordering, Less, Equal, Greater, length, get_or, take, refl, sym, ap, subst, ◌∙◌, append_assoc}
+use Rattle.std.proofs.Common.{◌≡◌, ℕ, ◌+◌, ◌<◌, ℤ, true, false, ◌||◌, cond, List, [], ◌∷◌, ◌++◌, fold, Option, Some, None, Ordering, Less, Equal, Greater, length, get_or, take, refl, sym, ap, subst, ◌∙◌, append_assoc}
 use Rattle.std.specs.Prelude as std
 use Rattle.std.specs.List.Sorted.{IsPermutation}
 use Rattle.std.specs.BTreeMap.{insert_entry}
@@ -10,6 +10,7 @@ use Rattle.std.proofs.lemmas.List.{append-nil}
 use Rattle.std.proofs.lemmas.List.Sums.{fold_push}
 use Rattle.std.proofs.lemmas.List.Sorted.{IsPermutation-refl, IsPermutation-cons, IsPermutation-map, IsPermutation-trans, IsPermutation-sym, IsPermutation-middle, IsPermutation-append_right}
 use denote.Ref.{Bor}
+use Rattle.rooms_val.proofs.Truths.{or_right}
 use Rattle.rooms_val.specs.Data.{Data, Pairs}
 use Rattle.rooms_val.specs.Maps.{order, AreRising, value_at, with_key, seen}
 use Rattle.rooms_val.specs.View.{data_of}
@@ -79,10 +80,6 @@ put_more (e ∷ es) k v none = put_step k v e es (order k e.0) none (λ later. p
 -- the map has no id of the records
 abbrev Lacks : List Data → Pairs → Type 0
 Lacks ds m = (q : List ℕ) → has_id ds q ≡ true → value_at m q ≡ None
-
-or_right : (a b : Bool) → b ≡ true → (a || b) ≡ true
-or_right true b is = refl
-or_right false b is = is
 
 lacks_next : (d : Data) (ds : List Data) (m : Pairs) (id : List ℕ) → has_id ds id ≡ false → Lacks (d ∷ ds) m → Lacks ds (with_key m id d)
 lacks_next d ds m id none lacks q has =

@@ -4,16 +4,6 @@ use Rattle.rooms_val.specs.declared.fault.OpFault.{OpFault}
 use Rattle.rooms_val.specs.declared.fault.OpFault.TheVariants.{WrongKind, OutOfMemory}
 use Rattle.room_snapshot.specs.Rows.{Refuses}
 
--- a fact holds of every error
-pub any_err : {T E P : Type 0} (r : Result T E) → P → IfErr r (λ _. P)
-any_err (Ok x) p = tt
-any_err (Err e) p = p
-
--- what holds of an error holds of what passes it on
-pub same_err : {T E : Type 0} (P : E → Type 0) (r : Result T E) (e : E) → IsErrAnd r (λ f. f ≡ e) → P e → IfErr r P
-same_err P (Ok x) e is p = tt
-same_err P (Err f) e is p = subst P (sym is) p
-
 for_cause : {P : Type 0} (e : OpFault) → P → Refuses P e
 for_cause WrongKind p = p
 for_cause OutOfMemory p = tt

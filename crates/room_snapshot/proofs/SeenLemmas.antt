@@ -4,6 +4,7 @@ use Rattle.std.specs.Prelude.{not}
 use Rattle.std.specs.BTreeSet.{BTreeSet}
 use Rattle.std.specs.Option.{option_map_or}
 use denote.Ref.{Bor}
+use Rattle.rooms_val.proofs.Truths.{unnot_true, unnot_false}
 use Rattle.rooms_val.specs.Data.{Data}
 use Rattle.rooms_val.specs.Maps.{ties}
 use Rattle.rooms_val.specs.View.{data_of}
@@ -24,14 +25,6 @@ either_way true false = refl
 either_way false true = refl
 either_way false false = refl
 
-not_true : (b : Bool) → not b ≡ true → b ≡ false
-not_true true is = cc
-not_true false is = refl
-
-not_false : (b : Bool) → not b ≡ false → b ≡ true
-not_false true is = refl
-not_false false is = cc
-
 knows_more : (old new : BTreeSet (Bor (List ℕ))) (k : Bor (List ℕ)) (seen : List Data) (d : Data) → Knows old seen
     → HasMore old new k → id_in d ≡ Some k.now → Knows new (seen ++ d ∷ [])
 knows_more old new k seen d known next is q =
@@ -51,7 +44,7 @@ module _ (ds : List SavedRecord) (i : ℕ) (d : SavedRecord) (within : i < lengt
   pub fine_more : (k : Bor (List ℕ)) (is_new : Bool) → id_in (data_of d.record) ≡ Some k.now → is_new ≡ not (has_text old k) → is_new ≡ true → HaveIds (seen_to ds (i + 1))
   fine_more k is_new is told yes_new =
       subst HaveIds (sym (records_of-push ds d i within here))
-      (ids_more (seen_to ds i) (data_of d.record) k.now fine is (sym (known k) ∙ not_true (has_text old k) (sym told ∙ yes_new)))
+      (ids_more (seen_to ds i) (data_of d.record) k.now fine is (sym (known k) ∙ unnot_true (has_text old k) (sym told ∙ yes_new)))
 
   pub known_more : (new : BTreeSet (Bor (List ℕ))) (k : Bor (List ℕ)) → id_in (data_of d.record) ≡ Some k.now
       → HasMore old new k → Knows new (seen_to ds (i + 1))
@@ -62,7 +55,7 @@ module _ (ds : List SavedRecord) (i : ℕ) (d : SavedRecord) (within : i < lengt
       → IsFirstFault (records_of (documents_view ds)) told
   fault_stood k is_new told is said no_new told_is =
       let split = records_of-split ds i d within here in
-      let stood : has_id (seen_to ds i) k.now ≡ true = sym (known k) ∙ not_false (has_text old k) (sym said ∙ no_new) in
+      let stood : has_id (seen_to ds i) k.now ≡ true = sym (known k) ∙ unnot_false (has_text old k) (sym said ∙ no_new) in
       record {
         before = seen_to ds i;
         bad = data_of d.record;

@@ -1,44 +1,33 @@
 -- How a word is read as a number.
-use Rattle.std.proofs.Common.{◌≡◌, ℕ, ◌<◌, ◌≤◌, ◌^◌, nat_le, Bool, true, false, ◌&&◌, cond, List, [], ◌∷◌, length, drop, Some, None, refl, sym, ap, subst, arith}
+use Rattle.std.proofs.Common.{◌≡◌, ℕ, ◌<◌, ◌≤◌, ◌^◌, nat_le, true, false, ◌&&◌, cond, List, [], ◌∷◌, length, drop, Some, None, refl, sym, ap, subst, arith}
 use Rattle.std.specs.Prelude.{nat_eq, not, ◌||◌}
 use Rattle.std.specs.List.{list_all}
 use Rattle.std.specs.Str.Parse.{AllDigits, IsNumeral, digits_value, without_leading_plus}
 use Rattle.std.proofs.lemmas.Bool.Decides.{nat_tests}
 use Rattle.rooms.specs.Numbers.{is_digit, is_decimal, number_between}
-
-first_of : (a b : Bool) → a && b ≡ true → a ≡ true
-first_of true b is = refl
-first_of false b is = absurd (cc)
-
-second_of : (a b : Bool) → a && b ≡ true → b ≡ true
-second_of true b is = is
-second_of false b is = absurd (cc)
+use Rattle.rooms_val.proofs.Truths.{and_left, and_right, and_false}
 
 digit_is : (c : ℕ) → is_digit c ≡ true → (48 ≤ c) × (c ≤ 57)
-digit_is c is = let low = first_of (nat_le 48 c) (nat_le c 57) is in let high = second_of (nat_le 48 c) (nat_le c 57) is in (grind (arith, nat_tests, low), grind (arith, nat_tests, high))
+digit_is c is = let low = and_left (nat_le 48 c) (nat_le c 57) is in let high = and_right (nat_le 48 c) (nat_le c 57) is in (grind (arith, nat_tests, low), grind (arith, nat_tests, high))
 
 digits_are : (ds : List ℕ) → list_all is_digit ds ≡ true → AllDigits 10 ds
 digits_are [] all = tt
 digits_are (c ∷ cs) all =
-    let here = digit_is c (first_of (is_digit c) (list_all is_digit cs) all) in
-    (grind (arith, nat_tests, here.0, here.1), digits_are cs (second_of (is_digit c) (list_all is_digit cs) all))
+    let here = digit_is c (and_left (is_digit c) (list_all is_digit cs) all) in
+    (grind (arith, nat_tests, here.0, here.1), digits_are cs (and_right (is_digit c) (list_all is_digit cs) all))
 
 -- a decimal word is digits, of which there is one, and begins with no plus
 pub numeral : (word : List ℕ) → is_decimal word ≡ true → IsNumeral 10 word
 numeral [] is = absurd (cc)
-numeral (first ∷ rest) is = (omega arith, digits_are (first ∷ rest) (second_of (not (nat_eq first 48) || nat_eq (length rest) 0) (list_all is_digit (first ∷ rest)) is))
+numeral (first ∷ rest) is = (omega arith, digits_are (first ∷ rest) (and_right (not (nat_eq first 48) || nat_eq (length rest) 0) (list_all is_digit (first ∷ rest)) is))
 
 plain : (word : List ℕ) → is_decimal word ≡ true → without_leading_plus word ≡ word
 plain [] is = absurd (cc)
 plain (first ∷ rest) is =
-    let all = second_of (not (nat_eq first 48) || nat_eq (length rest) 0) (list_all is_digit (first ∷ rest)) is in
-    let low = (digit_is first (first_of (is_digit first) (list_all is_digit rest) all)).0 in
+    let all = and_right (not (nat_eq first 48) || nat_eq (length rest) 0) (list_all is_digit (first ∷ rest)) is in
+    let low = (digit_is first (and_left (is_digit first) (list_all is_digit rest) all)).0 in
     let differs : nat_eq first 43 ≡ false = grind (arith, nat_tests, low) in
     ap (λ b. drop (cond b 1 0) (first ∷ rest)) differs
-
-and_false : (b : Bool) → b && false ≡ false
-and_false true = refl
-and_false false = refl
 
 -- a decimal word that doesn't fit 64 bits is beyond each bound of 64 bits
 pub too_great : (least most : ℕ) (word : List ℕ) → is_decimal word ≡ true → most < 2 ^ 64

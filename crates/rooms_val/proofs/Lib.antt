@@ -6,3 +6,4 @@ pub mod OrderLemmas
 pub mod FromJsonLemmas
 pub mod ToJsonLemmas
 pub mod JsonLemmas
+pub mod Truths

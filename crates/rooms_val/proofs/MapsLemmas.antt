@@ -6,6 +6,7 @@ use Rattle.std.specs.Cmp.Lexicographic.{pointwise, texts_ties}
 use Rattle.std.specs.FinMap.{nat_cmp-IsAntisymmetric, slice_cmp-IsAntisymmetric}
 use Rattle.std.specs.FinMap.Entries.{is_sorted, below_all, by_order, where_key, find-put, find-where_key, is_sorted-put, is_sorted-where_key, same_entries}
 use Rattle.std.proofs.lemmas.Cmp.{nat_list_cmp_total}
+use Rattle.rooms_val.proofs.Truths.{and_holds}
 use Rattle.rooms_val.proofs.ListLemmas.{one_off}
 use Rattle.rooms_val.specs.Maps.{order, ties, AreRising, value_at, with_key, without_key, set_at, added, IsTaken, keys_of, EachValue, seen}
 
@@ -16,10 +17,6 @@ first false b h = h
 pub second : (a b : Bool) → T (a && b) → T b
 second true b h = h
 second false b h = absurd h
-
-pub both : (a b : Bool) → T a → T b → T (a && b)
-both true b p q = q
-both false b p q = p
 
 pub less : (o : Ordering) → T (is_lt o) → o ≡ Less
 less Less h = refl
@@ -132,7 +129,7 @@ module _ {V : Type 0} where
 
   below_lower : (k l : List ℕ) (es : List (List ℕ × V)) → order k l ≡ Less → T (below_all order l es) → T (below_all order k es)
   below_lower k l [] lower h = tt
-  below_lower k l (e ∷ es) lower h = both _ _ (subst (λ o. T (is_lt o)) (sym (nat_list_cmp_total.trans k l e.0 lower (less _ (first _ _ h)))) tt) (below_lower k l es lower (second _ _ h))
+  below_lower k l (e ∷ es) lower h = and_holds _ _ (subst (λ o. T (is_lt o)) (sym (nat_list_cmp_total.trans k l e.0 lower (less _ (first _ _ h)))) tt) (below_lower k l es lower (second _ _ h))
 
   pub rising_rest : (e : List ℕ × V) (es : List (List ℕ × V)) → AreRising (e ∷ es) → AreRising es
   rising_rest e es rising = second _ _ rising
@@ -147,7 +144,7 @@ module _ {V : Type 0} where
   -- a key below the first takes nothing
   pub taken_lower : (k : List ℕ) (e : List ℕ × V) (es : List (List ℕ × V)) → AreRising (e ∷ es) → order k e.0 ≡ Less → IsTaken k None (e ∷ es) (e ∷ es)
   taken_lower k e es rising lower =
-      let below : T (below_all order k (e ∷ es)) = both _ _ (subst (λ o. T (is_lt o)) (sym lower) tt) (below_lower k e.0 es lower (first _ _ rising)) in
+      let below : T (below_all order k (e ∷ es)) = and_holds _ _ (subst (λ o. T (is_lt o)) (sym lower) tt) (below_lower k e.0 es lower (first _ _ rising)) in
       let none = at_below k (e ∷ es) below in
       record { found_is = sym none; rest_is = sym (without_absent (e ∷ es) k none) }
 
@@ -162,7 +159,7 @@ module _ {V : Type 0} where
   below_middle low [] e more h = (first _ _ h, second _ _ h)
   below_middle low (d ∷ done) e more h =
       let rest = below_middle low done e more (second _ _ h) in
-      (rest.0, both _ _ (first _ _ h) rest.1)
+      (rest.0, and_holds _ _ (first _ _ h) rest.1)
 
   -- a key that is above those before it goes last
   pub put_last : (done : List (List ℕ × V)) (k : List ℕ) (v : V) (more : List (List ℕ × V)) → AreRising (done ++ (k, v) ∷ more) → with_key done k v ≡ done ++ (k, v) ∷ []
@@ -189,7 +186,7 @@ module _ {V : Type 0} where
   -- a pair fewer
   pub rising_without : (done : List (List ℕ × V)) (e : List ℕ × V) (more : List (List ℕ × V)) → AreRising (done ++ e ∷ more) → AreRising (done ++ more)
   rising_without [] e more h = second _ _ h
-  rising_without (d ∷ done) e more h = both _ _ (below_middle d.0 done e more (first _ _ h)).1 (rising_without done e more (second _ _ h))
+  rising_without (d ∷ done) e more h = and_holds _ _ (below_middle d.0 done e more (first _ _ h)).1 (rising_without done e more (second _ _ h))
 
   -- a pair more at the end of what is done
   pub rising_on : (done : List (List ℕ × V)) (e : List ℕ × V) (more : List (List ℕ × V)) → AreRising (done ++ e ∷ more) → AreRising ((done ++ e ∷ []) ++ more)

@@ -3,6 +3,7 @@ use Rattle.std.proofs.Common.{◌≡◌, ℕ, ◌≤◌, nat_abs, nat_le, nat_lt
 use Rattle.std.specs.Option.{option_map_or}
 use Rattle.std.proofs.lemmas.Bool.Decides.{nat_tests}
 use Rattle.std.proofs.lemmas.Int.{ints}
+use Rattle.rooms_val.proofs.Truths.{some_same, and_left, and_right, and_true}
 use Rattle.rooms_val.specs.Data.{Data, Pairs}
 use Rattle.rooms_val.specs.Maps.{value_at, set_at, ties, added, AreRising}
 use Rattle.rooms_val.specs.View.{data_of}
@@ -25,7 +26,7 @@ use Rattle.room_model.specs.Schemas.{Schemas, AreLawful, Plan, doc, presence_id}
 use Rattle.room_model.specs.declared.limits.TheConstants.{MOST_RECORDS, MOST_WEIGHT, MOST_DEAD}
 use Rattle.room_model.specs.declared.saved.SavedRoom.{SavedRoom}
 use Rattle.room_model.specs.declared.saved.SavedRecord.{SavedRecord}
-use Rattle.room_model.proofs.ActingLemmas.{left, right, both, differ, presence_apart, rising-accepted}
+use Rattle.room_model.proofs.ActingLemmas.{differ, presence_apart, rising-accepted}
 use Rattle.room_model.proofs.AcceptLemmas.{accepted_acts}
 use Rattle.room_model.proofs.BaseLemmas.{rising-records}
 use Rattle.room_model.proofs.CallLemmas.{member_of, pushed_by, step_keeps, TakenRises, push_rises, everywhere}
@@ -46,9 +47,6 @@ pub record IsSound (schemas : Schemas) (room : Room) : Type 0 where
   pub began : room.first ≤ length room.history
   pub fits : AreFit schemas (doc schemas (records_of room.history))
 
-some_is : {X : Type 0} (x y : X) → ◌≡◌ {A = Option X} (Some x) (Some y) → x ≡ y
-some_is x y e = ap (λ o. option_map_or (λ z. z) o x) e
-
 none_some : {X Y : Type 0} (y : Y) → ◌≡◌ {A = Option Y} None (Some y) → X
 none_some y is = let never = ap is_some is in absurd (cc)
 
@@ -59,7 +57,7 @@ cond_none false = refl
 module _ (schemas : Schemas) where
   -- what an accepted operation leaves is admitted
   left_admitted : (id : List ℕ) (c : RecordOpTree) (r : Option Data) (d : Data) → acts_on schemas.admits id c r ≡ true → is_put_admitted schemas id c ≡ true → raw c r ≡ Some d → schemas.admits id d ≡ true
-  left_admitted id (put x) r d acts fine is = ap (schemas.admits id) (sym (some_is x d is)) ∙ fine
+  left_admitted id (put x) r d acts fine is = ap (schemas.admits id) (sym (some_same x d is)) ∙ fine
   left_admitted id (patch p) r d acts fine is = sym (ap (λ o. option_map_or (schemas.admits id) o false) is) ∙ acts
   left_admitted id remove r d acts fine is = none_some d is
 
@@ -72,9 +70,9 @@ module _ (schemas : Schemas) where
       let r = raw c (value_at m id) in
       let next = set_at m id r in
       let acting = acts_on schemas.admits id c (value_at m id) in
-      let fine : is_put_admitted schemas id c ≡ true = right acting _ (left _ _ is) in
+      let fine : is_put_admitted schemas id c ≡ true = and_right acting _ (and_left _ _ is) in
       record {
-        within = right (acting && is_put_admitted schemas id c) _ is;
+        within = and_right (acting && is_put_admitted schemas id c) _ is;
         admitted = λ q d at.
             let found : cond (schemas.is_document q) (cond (ties q id) r (value_at m q)) None ≡ Some d = sym (at-doc next q ∙ ap (λ o. cond (schemas.is_document q) o None) (at-set_at m id q r)) ∙ at in
             elim (schemas.is_document q) as (λ b. schemas.is_document q ≡ b → cond b (cond (ties q id) r (value_at m q)) None ≡ Some d → schemas.admits q d ≡ true) [
@@ -179,7 +177,7 @@ module _ (tree : SchemaTree) where
         at-doc (decided tree) M q
         ∙ elim (value_at M q) as (λ o. value_at M q ≡ o → cond ((decided tree).is_document q) o None ≡ o) [
           | None ↦ λ at. cond_none ((decided tree).is_document q)
-          | Some d ↦ λ at. ap (λ b. cond b (Some d) None) (left _ _ (admitted_one tree (pos last) saved are q d at))
+          | Some d ↦ λ at. ap (λ b. cond b (Some d) None) (and_left _ _ (admitted_one tree (pos last) saved are q d at))
         ] refl)
 
     begun_fits : AreFit (decided tree) (records_of (begun saved))
@@ -200,8 +198,8 @@ module _ (tree : SchemaTree) where
         let a : nat_le (length M) MOST_RECORDS ≡ true = let f = few.0 in grind (arith, nat_tests) in
         let b : nat_le (sum (map (λ (p : List ℕ × Data). weight p.1) M)) MOST_WEIGHT ≡ true = let f = few.1 in grind (arith, nat_tests) in
         record {
-          within = both _ _ a b;
-          admitted = λ id d at. right ((decided tree).is_document id) _ (admitted_one tree (pos last) saved are id d at);
+          within = and_true _ _ a b;
+          admitted = λ id d at. and_right ((decided tree).is_document id) _ (admitted_one tree (pos last) saved are id d at);
         }
 
   beginning_sound : (room : Room) → IsBeginning (decided tree) room → IsSound (decided tree) room

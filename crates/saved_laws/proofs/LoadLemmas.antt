@@ -8,7 +8,7 @@ use Rattle.std.specs.Ptr.{null_ptr}
 use Rattle.std.proofs.lemmas.Int.{ints}
 use Rattle.std.proofs.lemmas.Bool.Decides.{nat_tests}
 use Rattle.std.proofs.lemmas.List.{length-map}
-use Rattle.rooms_val.specs.Data.{Data, null, boolean, whole, text, list, map as map_of, Items, no_items, item, items_of, list_of, Pairs}
+use Rattle.rooms_val.specs.Data.{Data, null, boolean, whole, text, list, map as map_of, Pairs}
 use Rattle.rooms_val.specs.Kinds.{field, as_text}
 use Rattle.rooms_val.specs.Maps.{value_at, ties, keys_of, AreRising}
 use Rattle.rooms_val.specs.View.{data_of, val_of}
@@ -29,7 +29,7 @@ use Rattle.room_model.specs.declared.load_fault.LoadFault.TheVariants.{Clocks, B
 use Rattle.room_model.specs.declared.saved.SavedRecord.{SavedRecord}
 use Rattle.room_model.specs.declared.saved.SavedRoom.{SavedRoom}
 use Rattle.room_model.specs.declared.saved.SavedTomb.{SavedTomb}
-use Rattle.room_model.proofs.ActingLemmas.{left, right, both}
+use Rattle.rooms_val.proofs.Truths.{and_left, and_right, and_true}
 use Rattle.room_model.proofs.BaseLemmas.{rising-records}
 use Rattle.room_model.proofs.HistoryLemmas.{Each, each-imp, at_most-filter, few_dead, start_within}
 use Rattle.room_model.proofs.LookUpLemmas.{at-filter, rising-filter, unnamed}
@@ -37,10 +37,7 @@ use Rattle.room_history.specs.Saving.{IsSavedOf, with_own_id, clocks_of}
 use Rattle.room_history.proofs.CheckLemmas.{among-keys}
 use Rattle.saved_laws.proofs.KeptLemmas.{IsSound, cond_none, sound}
 use Rattle.saved_laws.proofs.SavedLemmas.{AreOf, IsDead, none_some, none_ties, records_are, tombs_few, tomb_says, length-are, weight-are, sorted_clocks, rising-sorted, at-sorted, at-tests, length-sorted}
-
-items_again : (ds : Items) → items_of (list_of ds) ≡ ds
-items_again no_items = refl
-items_again (item d ds) = ap (item d) (items_again ds)
+use Rattle.field_ops.proofs.ReadingLemmas.{items_again}
 
 -- a `Val` stands for each value
 pub data_again : (d : Data) → data_of (val_of d) ≡ d
@@ -80,17 +77,17 @@ module _ (schemas : Schemas) (last : List ℕ → ℕ) where
       let high = good.0.high in
       let a : int_le (pos 1) r.clock ≡ true = grind (arith, ints, nat_tests) in
       let b : int_le r.clock (pos clock) ≡ true = grind (arith, ints, nat_tests) in
-      both _ _ (both _ _ a b) (records_clocked clock rs ps are.1 good.1)
+      and_true _ _ (and_true _ _ a b) (records_clocked clock rs ps are.1 good.1)
 
   fit_records : (clock : ℕ) (earlier : List (List ℕ)) (rs : List SavedRecord) (ps : Pairs) → AreOf last rs ps → AreRising ps → Each (λ p. IsGood clock p.0 p.1) ps
       → Each (λ p. is_among earlier p.0 ≡ false) ps → unfit_record schemas earlier rs ≡ None
   fit_records clock earlier [] ps are rising good new = refl
   fit_records clock earlier (r ∷ rs) [] are rising good new = absurd are
   fit_records clock earlier (r ∷ rs) (p ∷ ps) are rising good new =
-      let admitted : is_admitted_as schemas r p.0 ≡ true = both _ _ good.0.document (ap (schemas.admits p.0) are.0.1 ∙ good.0.admitted) in
+      let admitted : is_admitted_as schemas r p.0 ≡ true = and_true _ _ good.0.document (ap (schemas.admits p.0) are.0.1 ∙ good.0.admitted) in
       let fresh : not (is_among earlier p.0) ≡ true = ap not new.0 in
       ap (λ o. option_map_or (λ id. cond (is_admitted_as schemas r id && not (is_among earlier id)) (unfit_record schemas (id ∷ earlier) rs) (Some id)) o (Some (codes "-"))) are.0.0
-      ∙ ap (λ b. cond b (unfit_record schemas (p.0 ∷ earlier) rs) (Some p.0)) (both _ _ admitted fresh)
+      ∙ ap (λ b. cond b (unfit_record schemas (p.0 ∷ earlier) rs) (Some p.0)) (and_true _ _ admitted fresh)
       ∙ fit_records clock (p.0 ∷ earlier) rs ps are.1 (rising_rest p ps rising) good.1 (later ps (none_ties ps p.0 (none_later p ps rising)) new.1)
     where
       later : (xs : Pairs) → Each (λ x. ties p.0 x.0 ≡ false) xs → Each (λ x. is_among earlier x.0 ≡ false) xs → Each (λ x. is_among (p.0 ∷ earlier) x.0 ≡ false) xs
@@ -121,12 +118,12 @@ module _ (schemas : Schemas) (start clock : ℕ) where
       let high = each.0.4 in
       let a : int_lt (pos start) t.clock ≡ true = grind (arith, ints, nat_tests) in
       let b : int_le t.clock (pos clock) ≡ true = grind (arith, ints, nat_tests) in
-      both _ _ (both _ _ a b) (tombs_clocked ts each.1)
+      and_true _ _ (and_true _ _ a b) (tombs_clocked ts each.1)
 
   fit_tombs : (earlier : List (List ℕ)) (ts : List SavedTomb) → AreRising (clocks_of ts) → Each IsTomb ts → Each (λ (t : SavedTomb). is_among earlier t.id ≡ false) ts → unfit_tomb schemas earlier ts ≡ None
   fit_tombs earlier [] rising each new = refl
   fit_tombs earlier (t ∷ ts) rising each new =
-      ap (λ b. cond b (unfit_tomb schemas (t.id ∷ earlier) ts) (Some t.id)) (both _ _ each.0.0 (ap not new.0))
+      ap (λ b. cond b (unfit_tomb schemas (t.id ∷ earlier) ts) (Some t.id)) (and_true _ _ each.0.0 (ap not new.0))
       ∙ fit_tombs (t.id ∷ earlier) ts (rising_rest (t.id, t.clock) (clocks_of ts) rising) each.1 (later ts (none_ties (clocks_of ts) t.id (none_later (t.id, t.clock) (clocks_of ts) rising)) new.1)
     where
       later : (xs : List SavedTomb) → Each (λ (e : List ℕ × ℤ). ties t.id e.0 ≡ false) (clocks_of xs) → Each (λ (x : SavedTomb). is_among earlier x.id ≡ false) xs → Each (λ (x : SavedTomb). is_among (t.id ∷ earlier) x.id ≡ false) xs
@@ -168,7 +165,7 @@ three_false false true c p q r = q
 three_false false false c p q r = r
 
 five : (a b c d e : Bool) → a ≡ true → b ≡ true → c ≡ true → d ≡ true → e ≡ true → a && b && c && d && e ≡ true
-five a b c d e p q r s t = both _ e (both _ d (both _ c (both a b p q) r) s) t
+five a b c d e p q r s t = and_true _ e (and_true _ d (and_true _ c (and_true a b p q) r) s) t
 
 module _ (tree : SchemaTree) (lawful : AreLawful (decided tree)) (room : Room) (reached : Reachable (decided tree) room) where
   abbrev H : History
@@ -206,10 +203,10 @@ module _ (tree : SchemaTree) (lawful : AreLawful (decided tree)) (room : Room) (
   start_low = let a = start_within room.first H in let b = kept.began in omega arith
 
   few_records : length D ≤ MOST_RECORDS
-  few_records = let is = left (nat_le (length D) MOST_RECORDS) _ kept.fits.within in grind (arith, nat_tests)
+  few_records = let is = and_left (nat_le (length D) MOST_RECORDS) _ kept.fits.within in grind (arith, nat_tests)
 
   light_records : sum (map (λ p. weight p.1) D) ≤ MOST_WEIGHT
-  light_records = let is = right (nat_le (length D) MOST_RECORDS) _ kept.fits.within in grind (arith, nat_tests)
+  light_records = let is = and_right (nat_le (length D) MOST_RECORDS) _ kept.fits.within in grind (arith, nat_tests)
 
   module _ (saved : SavedRoom) (is : IsSavedOf (is_document tree) room.first room.history saved) where
     abbrev R : List SavedRecord

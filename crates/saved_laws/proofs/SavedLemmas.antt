@@ -5,6 +5,7 @@ use Rattle.std.specs.FinMap.Entries.{by_order}
 use Rattle.std.specs.Option.{option_map_or}
 use Rattle.std.proofs.lemmas.Bool.Decides.{nat_tests}
 use Rattle.std.proofs.lemmas.List.Sums.{sum_by-cons}
+use Rattle.rooms_val.proofs.Truths.{some_same}
 use Rattle.rooms_val.specs.Data.{Data, Pairs}
 use Rattle.rooms_val.specs.Maps.{value_at, with_key, ties, order, AreRising}
 use Rattle.rooms_val.specs.View.{data_of}
@@ -24,9 +25,6 @@ use Rattle.room_history.proofs.BegunLemmas.{says, record_at, tomb_at}
 use Rattle.room_history.proofs.SavingLemmas.{last_are}
 use Rattle.saved_laws.proofs.KeptLemmas.{cond_none}
 
-some_is : {X : Type 0} (x y : X) → ◌≡◌ {A = Option X} (Some x) (Some y) → x ≡ y
-some_is x y e = ap (λ o. option_map_or (λ z. z) o x) e
-
 pub none_some : {X Y : Type 0} (y : Y) → ◌≡◌ {A = Option Y} None (Some y) → X
 none_some y is = let never = ap is_some is in absurd (cc)
 
@@ -45,7 +43,7 @@ module _ {V : Type 0} where
   found_has P [] q v each at = none_some v at
   found_has P (e ∷ es) q v each at =
       elim (ties q e.0) as (λ b. ties q e.0 ≡ b → cond b (Some e.1) (value_at es q) ≡ Some v → P q v) [
-        | true ↦ λ same here. subst (λ k. P k v) (sym (ties_same q e.0 same)) (subst (P e.0) (some_is e.1 v here) each.0)
+        | true ↦ λ same here. subst (λ k. P k v) (sym (ties_same q e.0 same)) (subst (P e.0) (some_same e.1 v here) each.0)
         | false ↦ λ other later. found_has P es q v each.1 later
       ] refl at
 
@@ -105,7 +103,7 @@ at-whole : (ps : List (List ℕ × ℕ)) (q : List ℕ) (z : ℤ) → value_at (
 at-whole [] q z at = none_some z at
 at-whole (p ∷ ps) q z at =
     elim (ties q p.0) as (λ b. cond b (Some (pos p.1)) (value_at (whole_clocks ps) q) ≡ Some z → (n : ℕ) × (cond b (Some p.1) (value_at ps q) ≡ Some n) × (z ≡ pos n)) [
-      | true ↦ λ here. (p.1, refl, sym (some_is (pos p.1) z here))
+      | true ↦ λ here. (p.1, refl, sym (some_same (pos p.1) z here))
       | false ↦ λ later. at-whole ps q z later
     ] at
 
@@ -206,7 +204,7 @@ module _ (last : List ℕ → ℕ) where
   clock-at (r ∷ rs) [] q x are at = absurd are
   clock-at (r ∷ rs) (p ∷ ps) q x are at =
       elim (ties q p.0) as (λ b. ties q p.0 ≡ b → cond b (Some r) (record_at rs q) ≡ Some x → x.clock ≡ pos (last q)) [
-        | true ↦ λ same here. ap (λ (r : SavedRecord). r.clock) (sym (some_is r x here)) ∙ are.0.2 ∙ ap (λ k. pos (last k)) (sym (ties_same q p.0 same))
+        | true ↦ λ same here. ap (λ (r : SavedRecord). r.clock) (sym (some_same r x here)) ∙ are.0.2 ∙ ap (λ k. pos (last k)) (sym (ties_same q p.0 same))
         | false ↦ λ other later. clock-at rs ps q x are.1 later
       ] refl (sym (ap (λ o. cond (option_map_or (λ id. ties q id) o false) (Some r) (record_at rs q)) are.0.0) ∙ at)
 

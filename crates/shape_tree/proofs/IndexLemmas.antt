@@ -5,11 +5,11 @@ use Rattle.std.specs.List.{sum_by}
 use Rattle.std.specs.Cmp.{IsTotalOrder}
 use Rattle.std.specs.Cmp.Lexicographic.{nat_list_cmp_total}
 use Rattle.std.specs.Ordering.{is_lt, ordering_then, on}
-use Rattle.std.specs.declared.cmp.Ordering.{Ordering}
-use Rattle.std.specs.declared.cmp.Ordering.TheVariants.{Less, Equal, Greater}
+use Rattle.std.specs.declared.cmp.Ordering.TheVariants.{Equal}
 use Rattle.std.proofs.lemmas.Cmp.{on_total, then_total}
 use Rattle.std.proofs.lemmas.List.Sums.{sum_by-cons}
 use Rattle.std.proofs.lemmas.List.Sorted.{sum_by-IsPermutation, IsPermutation-map}
+use Rattle.rooms_val.proofs.Truths.{both_Equal}
 use Rattle.rooms_val.specs.Data.{Pairs}
 use Rattle.rooms_val.specs.Maps.{order, ties}
 use Rattle.rooms_val.proofs.MapsLemmas.{same_key, order_itself, by_tie}
@@ -25,12 +25,7 @@ place_total = then_total (on_total (λ p. p.parent) nat_list_cmp_total) (then_to
 sibling_total : IsTotalOrder sibling_order
 sibling_total = then_total (on_total (λ s. s.index) nat_list_cmp_total) (on_total (λ s. s.id) nat_list_cmp_total)
 
-both_Equal : (a b : Ordering) → ordering_then a b ≡ Equal → (a ≡ Equal) × (b ≡ Equal)
-both_Equal Less b e = (e, cc)
-both_Equal Equal b e = (refl, e)
-both_Equal Greater b e = (e, cc)
-
-same_sibling : (s t : Sibling) → sibling_order s t ≡ Equal → s ≡ t
+pub same_sibling : (s t : Sibling) → sibling_order s t ≡ Equal → s ≡ t
 same_sibling s t e =
     let both = both_Equal (order s.index t.index) (order s.id t.id) e in
     let index = same_key s.index t.index both.0 in

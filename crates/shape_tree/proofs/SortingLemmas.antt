@@ -10,11 +10,7 @@ use Rattle.std.proofs.lemmas.List.Sums.{sum_by-cons}
 use Rattle.std.proofs.lemmas.List.Sorted.{sorted_far, ranks_by}
 use Rattle.shape_tree.specs.Sorting.{inserted, in_order}
 use Rattle.shape_tree.specs.Index.{AreNotLess, Rises}
-
-is_Less : (w : Ordering) → is_lt w ≡ true → w ≡ Less
-is_Less Less e = refl
-is_Less Equal e = absurd (true≢false (sym e))
-is_Less Greater e = absurd (true≢false (sym e))
+use Rattle.rooms_val.proofs.Truths.{is_Less}
 
 module _ {X : Type 0} {R : X → X → Ordering} (o : IsTotalOrder R) where
   -- 1 for an item that ties with q

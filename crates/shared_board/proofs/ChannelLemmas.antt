@@ -18,7 +18,7 @@ use Rattle.world_laws.proofs.EventLemmas.{Holds, from_option}
 use Rattle.world_laws.proofs.PushLemmas.{long-set, long-added}
 use Rattle.world_laws.proofs.QueueLemmas.{queues_go_on}
 use Rattle.world_laws.proofs.SessionLemmas.{sessions_stand}
-use Rattle.world_laws.proofs.PresenceLemmas.{or_second as second_not}
+use Rattle.rooms_val.proofs.Truths.{or_false_right}
 use Rattle.world_queues.specs.Queues.{to_client}
 use Rattle.sync_world.specs.Standing as world_of
 use Rattle.sync_world.specs.declared.world.World as code_of
@@ -55,7 +55,7 @@ module _ (schemas : WorldSchemas EditFault) (w : World) where
     -- there are fewer channels than a recording has place for
     below_limit : is_at_limit w ≡ false → length w.channels < MOST_RECORDED
     below_limit is =
-        let few : nat_le MOST_RECORDED (length w.room.sessions) ≡ false = second_not (is_full w.room) (nat_le MOST_RECORDED (length w.room.sessions)) is in
+        let few : nat_le MOST_RECORDED (length w.room.sessions) ≡ false = or_false_right (is_full w.room) (nat_le MOST_RECORDED (length w.room.sessions)) is in
         let same : length w.channels ≡ length w.room.sessions = (sessions_stand schemas w reached).channels in
         let less : length w.room.sessions < MOST_RECORDED = grind (arith, nat_tests) in
         omega (arith, same, less)

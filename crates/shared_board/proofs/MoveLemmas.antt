@@ -16,9 +16,9 @@ use Rattle.shared_board.specs.declared.board.Board.{Board}
 use Rattle.shared_board.specs.declared.moving.Leg.{Leg}
 use Rattle.shared_board.specs.declared.moving.Leg.TheVariants as leg
 use Rattle.shared_board.specs.Sharing.{Shares}
-use Rattle.sync_world.proofs.RoomPeerLemmas.{lawful_of}
 use Rattle.shared_board.proofs.ChannelLemmas.{past_handle, past_send}
 use Rattle.shared_board.proofs.SettledLemmas.{is_shared}
+use Rattle.peer_schemas.proofs.ClientLemmas.{lawful}
 
 -- nobody connects by an event that moves something
 pub moving_apart : (e : Event) → IsMoving e → IsApart e
@@ -126,4 +126,4 @@ module _ (schemas : WorldSchemas EditFault) where
   pub shares : (from : World) (board : Board) → (state : World) × Moves schemas from state × IsSettled schemas state × Stands schemas state board → Shares schemas board
   shares from board settled =
       let keeps = settled.3.world.keeps in
-      (settled.0, settled.3, is_shared schemas settled.0 (lawful_of schemas keeps.fits.tables) keeps.reachable settled.2)
+      (settled.0, settled.3, is_shared schemas settled.0 (lawful schemas keeps.fits.tables) keeps.reachable settled.2)

@@ -25,7 +25,7 @@ use Rattle.side_effects.specs.declared.fault.EditFault.{EditFault}
 use Rattle.side_effects.specs.declared.fault.EditFault.TheVariants.{Invalid, NoRecord}
 use Rattle.side_effects.proofs.RemovesLemmas.{all_removed, at-all_removed}
 use Rattle.side_effects.proofs.CompletedLemmas.{not_err, same_ok, and_then_ok, came}
-use Rattle.side_effects.proofs.PlacingLemmas.{and_first, and_second}
+use Rattle.rooms_val.proofs.Truths.{and_left, and_right}
 
 same_op : (c d : RecordOpTree) → ◌≡◌ {A = Option RecordOpTree} (Some c) (Some d) → c ≡ d
 same_op c d is = cc
@@ -106,8 +106,8 @@ module _ (s : SchemaTree) (m : Pairs) where
   placed_act [] diff all un each is = subst (EachPatchActs (is_admitted s) m) (same_ok diff all is) each
   placed_act (c ∷ left) diff all un each is =
       let found = and_then_ok (placing s (fold_raw m diff) c.0 c.1) (λ op. all_placed s m (with_key diff c.0 op) left) all is in
-      let new = placing_put (fold_raw m diff) c.0 c.1 found.0 (and_first (is_unplaced m c.0 c.1) (list_all (λ d. is_unplaced m d.0 d.1) left) un) found.1 in
-      placed_act left (with_key diff c.0 found.0) all (and_second (is_unplaced m c.0 c.1) (list_all (λ d. is_unplaced m d.0 d.1) left) un) (more_act diff c.0 found.0 (put_is_other found.0 new.0 new.1) each) found.2
+      let new = placing_put (fold_raw m diff) c.0 c.1 found.0 (and_left (is_unplaced m c.0 c.1) (list_all (λ d. is_unplaced m d.0 d.1) left) un) found.1 in
+      placed_act left (with_key diff c.0 found.0) all (and_right (is_unplaced m c.0 c.1) (list_all (λ d. is_unplaced m d.0 d.1) left) un) (more_act diff c.0 found.0 (put_is_other found.0 new.0 new.1) each) found.2
 
   removed_act : (diff : RecordOps) (ids : List (List ℕ)) → EachPatchActs (is_admitted s) m diff → EachPatchActs (is_admitted s) m (all_removed diff ids)
   removed_act diff ids each = λ q p is.

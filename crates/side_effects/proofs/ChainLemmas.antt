@@ -14,7 +14,8 @@ use Rattle.field_ops.specs.RecordOps.{RecordOps}
 use Rattle.doc_model.specs.Documents.{fold_raw}
 use Rattle.side_effects.specs.ReachingLaws.{IsIn, AreAll}
 use Rattle.side_effects.specs.Reaching.{reaches}
-use Rattle.side_effects.proofs.ReachingLemmas.{enough, climb, raised, raised_is, any_imp, or_left, or_false as or_none}
+use Rattle.side_effects.proofs.ReachingLemmas.{enough, climb, raised, raised_is, any_imp, or_false as or_none}
+use Rattle.rooms_val.proofs.Truths.{or_left}
 use Rattle.shape_tree.specs.Records.{is_shape}
 use Rattle.side_effects.specs.Records.{parent_of}
 use Rattle.side_effects.specs.Whole.{parent_at, parents, meets_within, meets_itself}

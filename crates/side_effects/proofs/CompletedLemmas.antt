@@ -4,6 +4,7 @@ use Rattle.std.specs.Prelude.{nat_lt, filter, not}
 use Rattle.std.specs.List.{list_all}
 use Rattle.std.specs.Option.{option_map_or}
 use Rattle.std.specs.FinMap.Entries.{by_order}
+use Rattle.rooms_val.proofs.Truths.{and_true, and_left, and_right}
 use Rattle.rooms_val.specs.Data.{Data, Pairs}
 use Rattle.rooms_val.specs.Maps.{value_at, with_key, keys_of, order, ties, AreRising}
 use Rattle.rooms_val.proofs.MapsLemmas.{ties_same, rising-with_key}
@@ -22,10 +23,7 @@ use Rattle.side_effects.specs.declared.fault.EditFault.{EditFault}
 use Rattle.side_effects.specs.declared.fault.EditFault.TheVariants.{TooMany, WrongScope}
 use Rattle.side_effects.proofs.RemovesLemmas.{removed_is, all_removed, rising-all_removed}
 use Rattle.side_effects.proofs.GoesLemmas.{goes_within}
-use Rattle.side_effects.proofs.PlacingLemmas.{rising-placed, and_first, and_second}
-
-and_both : (a b : Bool) → a ≡ true → b ≡ true → (a && b) ≡ true
-and_both a b one two = ap (λ x. x && b) one ∙ two
+use Rattle.side_effects.proofs.PlacingLemmas.{rising-placed}
 
 pub not_err : {A : Type 0} (fault : EditFault) (x : A) → ◌≡◌ {A = Result A EditFault} (Err fault) (Ok x) → ⊥
 not_err fault x is = cc
@@ -56,28 +54,28 @@ module _ (p : List ℕ → Bool) where
   pass_at : (diff : RecordOps) (q : List ℕ) (c : RecordOpTree) → AllPass diff → value_at diff q ≡ Some c → p q ≡ true
   pass_at [] q c each is = absurd (let no : None ≡ Some c = is in (cc))
   pass_at (e ∷ diff) q c each is = elim (ties q e.0) as (λ t. ties q e.0 ≡ t → cond t (Some e.1) (value_at diff q) ≡ Some c → p q ≡ true) [
-    | true ↦ λ same _. ap p (ties_same q e.0 same) ∙ and_first (p e.0) (list_all (λ d. p d.0) diff) each
-    | false ↦ λ _ there. pass_at diff q c (and_second (p e.0) (list_all (λ d. p d.0) diff) each) there
+    | true ↦ λ same _. ap p (ties_same q e.0 same) ∙ and_left (p e.0) (list_all (λ d. p d.0) diff) each
+    | false ↦ λ _ there. pass_at diff q c (and_right (p e.0) (list_all (λ d. p d.0) diff) each) there
   ] refl is
 
   pass_put : (diff : RecordOps) (id : List ℕ) (c : RecordOpTree) → AllPass diff → p id ≡ true → AllPass (with_key diff id c)
-  pass_put [] id c each one = and_both (p id) true one refl
+  pass_put [] id c each one = and_true (p id) true one refl
   pass_put (e ∷ diff) id c each one =
-      let first = and_first (p e.0) (list_all (λ d. p d.0) diff) each in
-      let later = and_second (p e.0) (list_all (λ d. p d.0) diff) each in
+      let first = and_left (p e.0) (list_all (λ d. p d.0) diff) each in
+      let later = and_right (p e.0) (list_all (λ d. p d.0) diff) each in
       elim (order id e.0) as (λ o. AllPass (by_order o ((id, c) ∷ e ∷ diff) ((e.0, c) ∷ diff) (e ∷ with_key diff id c))) [
-        | Less ↦ and_both (p id) _ one each
-        | Equal ↦ and_both (p e.0) _ first later
-        | Greater ↦ and_both (p e.0) _ first (pass_put diff id c later one)
+        | Less ↦ and_true (p id) _ one each
+        | Equal ↦ and_true (p e.0) _ first later
+        | Greater ↦ and_true (p e.0) _ first (pass_put diff id c later one)
       ]
 
   pass_filter : (test : List ℕ × RecordOpTree → Bool) (diff : RecordOps) → AllPass diff → AllPass (filter test diff)
   pass_filter test [] each = refl
   pass_filter test (e ∷ diff) each =
-      let first = and_first (p e.0) (list_all (λ d. p d.0) diff) each in
-      let later = pass_filter test diff (and_second (p e.0) (list_all (λ d. p d.0) diff) each) in
+      let first = and_left (p e.0) (list_all (λ d. p d.0) diff) each in
+      let later = pass_filter test diff (and_right (p e.0) (list_all (λ d. p d.0) diff) each) in
       elim (test e) as (λ b. AllPass (cond b (e ∷ filter test diff) (filter test diff))) [
-        | true ↦ and_both (p e.0) (list_all (λ d. p d.0) (filter test diff)) first later
+        | true ↦ and_true (p e.0) (list_all (λ d. p d.0) (filter test diff)) first later
         | false ↦ later
       ]
 
@@ -85,16 +83,16 @@ module _ (p : List ℕ → Bool) where
   pass_placed s m [] diff all each rest is = subst AllPass (same_ok diff all is) each
   pass_placed s m (c ∷ left) diff all each rest is =
       let found = and_then_ok (placing s (fold_raw m diff) c.0 c.1) (λ op. all_placed s m (with_key diff c.0 op) left) all is in
-      pass_placed s m left (with_key diff c.0 found.0) all (pass_put diff c.0 found.0 each (and_first (p c.0) (list_all (λ d. p d.0) left) rest)) (and_second (p c.0) (list_all (λ d. p d.0) left) rest) found.2
+      pass_placed s m left (with_key diff c.0 found.0) all (pass_put diff c.0 found.0 each (and_left (p c.0) (list_all (λ d. p d.0) left) rest)) (and_right (p c.0) (list_all (λ d. p d.0) left) rest) found.2
 
   pass_removed : (ids : List (List ℕ)) (diff : RecordOps) → AllPass diff → list_all p ids ≡ true → AllPass (all_removed diff ids)
   pass_removed [] diff each rest = each
-  pass_removed (id ∷ ids) diff each rest = pass_removed ids (with_key diff id remove) (pass_put diff id remove each (and_first (p id) (list_all p ids) rest)) (and_second (p id) (list_all p ids) rest)
+  pass_removed (id ∷ ids) diff each rest = pass_removed ids (with_key diff id remove) (pass_put diff id remove each (and_left (p id) (list_all p ids) rest)) (and_right (p id) (list_all p ids) rest)
 
   those_pass : (test : List ℕ → Bool) → ((id : List ℕ) → test id ≡ true → p id ≡ true) → (ids : List (List ℕ)) → list_all p (filter test ids) ≡ true
   those_pass test imp [] = refl
   those_pass test imp (id ∷ ids) = elim (test id) as (λ b. test id ≡ b → list_all p (cond b (id ∷ filter test ids) (filter test ids)) ≡ true) [
-    | true ↦ λ is. and_both (p id) (list_all p (filter test ids)) (imp id is) (those_pass test imp ids)
+    | true ↦ λ is. and_true (p id) (list_all p (filter test ids)) (imp id is) (those_pass test imp ids)
     | false ↦ λ _. those_pass test imp ids
   ] refl
 

@@ -6,21 +6,22 @@ use Rattle.std.specs.Option.{option_and_then}
 use Rattle.std.specs.Ordering.{is_eq}
 use Rattle.std.specs.FinMap.Entries.{below_all}
 use Rattle.rooms_val.specs.Maps.{value_at, order, ties, keys_of, AreRising}
-use Rattle.rooms_val.proofs.MapsLemmas.{first, second, both, by_tie, order_itself, none_later}
+use Rattle.rooms_val.proofs.MapsLemmas.{first, second, by_tie, order_itself, none_later}
+use Rattle.rooms_val.proofs.Truths.{and_holds}
 use Rattle.side_effects.specs.ReachingLaws.{IsIn}
 
 module _ {V : Type 0} (test : List ℕ × V → Bool) where
   below-filter : (low : List ℕ) (es : List (List ℕ × V)) → T (below_all order low es) → T (below_all order low (filter test es))
   below-filter low [] below = tt
   below-filter low (e ∷ es) below = elim (test e) as (λ b. T (below_all order low (cond b (e ∷ filter test es) (filter test es)))) [
-    | true ↦ both _ _ (first _ _ below) (below-filter low es (second _ _ below))
+    | true ↦ and_holds _ _ (first _ _ below) (below-filter low es (second _ _ below))
     | false ↦ below-filter low es (second _ _ below)
   ]
 
   pub rising-filter : (es : List (List ℕ × V)) → AreRising es → AreRising (filter test es)
   rising-filter [] rising = tt
   rising-filter (e ∷ es) rising = elim (test e) as (λ b. AreRising (cond b (e ∷ filter test es) (filter test es))) [
-    | true ↦ both _ _ (below-filter e.0 es (first _ _ rising)) (rising-filter es (second _ _ rising))
+    | true ↦ and_holds _ _ (below-filter e.0 es (first _ _ rising)) (rising-filter es (second _ _ rising))
     | false ↦ rising-filter es (second _ _ rising)
   ]
 

@@ -11,7 +11,8 @@ use Rattle.field_ops.specs.RecordOps.{remove, RecordOps}
 use Rattle.doc_model.specs.Documents.{fold_raw}
 use Rattle.side_effects.specs.ReachingLaws.{IsIn, AreAll, IsClosed}
 use Rattle.side_effects.specs.Reaching.{reaches}
-use Rattle.side_effects.proofs.ReachingLemmas.{alone, closed_below, has_ends, within, iff_same as same_tests}
+use Rattle.side_effects.proofs.ReachingLemmas.{alone, closed_below, has_ends, within}
+use Rattle.rooms_val.proofs.Truths.{iff_same}
 use Rattle.shape_tree.specs.Records.{text_or_empty, is_shape, is_binding}
 use Rattle.side_effects.specs.Records.{holders_of, has}
 use Rattle.side_effects.specs.Removed.{removes, holders, goes, with_removes}
@@ -162,7 +163,7 @@ module _ (m : Pairs) (diff : RecordOps) where
     }
 
     swept_goes : (q : List ℕ) → removes new q ≡ goes m diff q
-    swept_goes q = same_tests (removes new q) (goes m diff q)
+    swept_goes q = iff_same (removes new q) (goes m diff q)
         (swept.least (goes m diff) removed_goes (λ l is holds. hung_goes l.0 l.1 (link_holds m (fold_raw m diff) l is) holds) q)
         (goes_within (removes new) swept_closed q)
 
@@ -194,4 +195,4 @@ module _ (m : Pairs) (diff : RecordOps) where
       closed = record { ends = λ q is. sym (none q) ∙ is; below = λ q h is never. never }
 
       stays : (q : List ℕ) → goes m diff q ≡ false
-      stays q = same_tests (goes m diff q) false (goes_within (λ _. false) closed q) (λ never. absurd (cc))
+      stays q = iff_same (goes m diff q) false (goes_within (λ _. false) closed q) (λ never. absurd (cc))

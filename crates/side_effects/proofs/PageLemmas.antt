@@ -2,6 +2,7 @@
 use Rattle.std.proofs.Common.{◌≡◌, ℕ, Bool, true, false, ◌&&◌, ◌||◌, cond, List, [], ◌∷◌, Option, Some, None, inl, inr, refl, sym, ap, ◌∙◌}
 use Rattle.std.specs.Prelude.{is_some, not}
 use Rattle.std.specs.List.{list_any}
+use Rattle.rooms_val.proofs.Truths.{and_true, and_left, and_right, or_left, or_right, iff_same}
 use Rattle.rooms_val.specs.Data.{Data, Pairs}
 use Rattle.rooms_val.specs.Maps.{value_at, keys_of, ties, AreRising}
 use Rattle.rooms_val.proofs.MapsLemmas.{ties_same}
@@ -9,16 +10,12 @@ use Rattle.field_ops.specs.Laws.{raw_after}
 use Rattle.field_ops.specs.RecordOps.{RecordOpTree, put, patch, remove, RecordOps}
 use Rattle.doc_model.specs.Documents.{fold_raw}
 use Rattle.doc_model.proofs.MergeLemmas.{at-fold_raw}
-use Rattle.side_effects.proofs.ReachingLemmas.{any_in, in_any, or_cases, or_left, or_right, iff_same as same_tests}
+use Rattle.side_effects.proofs.ReachingLemmas.{any_in, in_any, or_cases}
 use Rattle.side_effects.specs.Records.{is_page, has}
 use Rattle.side_effects.specs.Removed.{is_remove}
 use Rattle.side_effects.specs.Whole.{has_page, is_page_in, last_page}
 use Rattle.side_effects.specs.declared.fault.EditFault.TheVariants.{LastPage}
 use Rattle.side_effects.proofs.FilterLemmas.{is_in-keys, keys-is_in}
-use Rattle.side_effects.proofs.PlacingLemmas.{and_first, and_second}
-
-and_both : (a b : Bool) → a ≡ true → b ≡ true → (a && b) ≡ true
-and_both a b one two = ap (λ x. x && b) one ∙ two
 
 any_keys : {V : Type 0} (p : List ℕ → Bool) (es : List (List ℕ × V)) → list_any (λ e. p e.0) es ≡ list_any p (keys_of es)
 any_keys p [] = refl
@@ -45,17 +42,17 @@ module _ (m : Pairs) (diff : RecordOps) (rising : AreRising diff) where
   ] refl (sym (ap is_some (at-fold_raw diff m id rising)) ∙ there)
 
   from_page : (id : List ℕ) → is_page_in after id ≡ true → has_page after ≡ true
-  from_page id is = of_page after id (and_first (is_page id) (has after id) is) (and_second (is_page id) (has after id) is)
+  from_page id is = of_page after id (and_left (is_page id) (has after id) is) (and_right (is_page id) (has after id) is)
 
   -- a page is there after the diff where one of the ids before it, or of those that it names, is one
   pub page_after : found_after ≡ has_page after
   page_after =
-      same_tests found_after (has_page after)
+      iff_same found_after (has_page after)
       (λ is. elim (or_cases (list_any (is_page_in after) (keys_of m)) (list_any (λ c. is_page_in after c.0) diff) is) [
         | inl held ↦ let found = in_any (is_page_in after) (keys_of m) held in from_page found.0 found.2
         | inr named ↦ let found = in_any (is_page_in after) (keys_of diff) (sym (any_keys (is_page_in after) diff) ∙ named) in from_page found.0 found.2
       ])
-      (λ is. let found = page_of after is in place found.0 (and_both (is_page found.0) (has after found.0) found.1 found.2) found.2)
+      (λ is. let found = page_of after is in place found.0 (and_true (is_page found.0) (has after found.0) found.1 found.2) found.2)
 
   not_removed : (es : RecordOps) (id : List ℕ) (c : RecordOpTree) → list_any (λ e. is_page e.0 && is_remove e.1) es ≡ false → is_page id ≡ true → value_at es id ≡ Some c → is_remove c ≡ false
   not_removed [] id c none page is = absurd (let no : None ≡ Some c = is in (cc))

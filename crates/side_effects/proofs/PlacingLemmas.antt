@@ -1,6 +1,7 @@
 -- New shapes placed one after another.
 use Rattle.std.proofs.Common.{◌≡◌, ℕ, suc, ◌+◌, Bool, true, false, ◌&&◌, cond, List, [], ◌∷◌, ◌++◌, append_assoc, length, Option, Some, None, Result, Ok, Err, refl, sym, ap, ◌∙◌, arith}
 use Rattle.std.specs.Prelude.{filter, is_some, not, codes}
+use Rattle.rooms_val.proofs.Truths.{and_left, and_right}
 use Rattle.rooms_val.specs.Data.{Data, Pairs, text, members_of, map as map_data}
 use Rattle.rooms_val.proofs.DataLemmas.{pairs_of-members_of}
 use Rattle.rooms_val.specs.Maps.{value_at, with_key, ties, AreRising}
@@ -17,14 +18,6 @@ use Rattle.side_effects.specs.Tops.{top_in, raised, AreTops, IsPlacing}
 use Rattle.side_effects.specs.declared.fault.EditFault.{EditFault}
 use Rattle.side_effects.proofs.FilterLemmas.{ties_with, rising-filter, at-filter, kept_at}
 use Rattle.side_effects.proofs.TopLemmas.{greatest_more}
-
-pub and_first : (a b : Bool) → (a && b) ≡ true → a ≡ true
-and_first true b is = refl
-and_first false b is = is
-
-pub and_second : (a b : Bool) → (a && b) ≡ true → b ≡ true
-and_second true b is = is
-and_second false b is = absurd (let no : false ≡ true = is in (cc))
 
 none_there : {A : Type 0} (o : Option A) → not (is_some o) ≡ true → o ≡ None
 none_there None is = refl
@@ -53,10 +46,10 @@ module _ (m tops : Pairs) (diff : RecordOps) (c : List ℕ × RecordOpTree) (lef
 
 module _ (m tops : Pairs) (diff : RecordOps) (id : List ℕ) (d : Data) (left : RecordOps) (stands : IsPlacing m tops diff ((id, put d) ∷ left)) (is : is_unplaced m id (put d) ≡ true) where
   absent : value_at m id ≡ None
-  absent = none_there (value_at m id) (and_second (is_shape id) (not (has m id)) (and_first (is_shape id && not (has m id)) (lacks_index d) is))
+  absent = none_there (value_at m id) (and_right (is_shape id) (not (has m id)) (and_left (is_shape id && not (has m id)) (lacks_index d) is))
 
   is_one : is_shape id ≡ true
-  is_one = and_first (is_shape id) (not (has m id)) (and_first (is_shape id && not (has m id)) (lacks_index d) is)
+  is_one = and_left (is_shape id) (not (has m id)) (and_left (is_shape id && not (has m id)) (lacks_index d) is)
 
   fresh_here : value_at diff id ≡ None
   fresh_here = stands.fresh id (put d) (ap (λ b. cond b (Some (put d)) (value_at left id)) (ties_with id id refl)) is

@@ -4,17 +4,11 @@ use Rattle.std.specs.List.{list_any}
 use Rattle.std.proofs.lemmas.Bool.{cases_lt}
 use Rattle.side_effects.specs.Reaching.{reaches}
 use Rattle.side_effects.specs.ReachingLaws.{IsIn, AreAll, IsClosed, AreLeast}
-
-pub or_left : (a b : Bool) → a ≡ true → (a || b) ≡ true
-or_left a b is = ap (λ x. x || b) is
+use Rattle.rooms_val.proofs.Truths.{or_left, or_right, iff_same}
 
 pub or_cases : (a b : Bool) → (a || b) ≡ true → (a ≡ true) ⊎ (b ≡ true)
 or_cases true b is = inl refl
 or_cases false b is = inr is
-
-pub or_right : (a b : Bool) → b ≡ true → (a || b) ≡ true
-or_right true b is = refl
-or_right false b is = is
 
 module _ {X : Type 0} where
   pub any_imp : (p q : X → Bool) → ((x : X) → p x ≡ true → q x ≡ true) → (xs : List X) → list_any p xs ≡ true → list_any q xs ≡ true
@@ -73,11 +67,6 @@ module _ {X : Type 0} where
       ]
     ] refl fewer
   ] refl few
-
-pub iff_same : (a b : Bool) → (a ≡ true → b ≡ true) → (b ≡ true → a ≡ true) → a ≡ b
-iff_same true b there back = sym (there refl)
-iff_same false true there back = back refl
-iff_same false false there back = refl
 
 pub or_false : (a : Bool) → (a || false) ≡ a
 or_false true = refl

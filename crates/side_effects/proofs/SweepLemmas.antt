@@ -8,7 +8,8 @@ use Rattle.side_effects.specs.Removed.{removes}
 use Rattle.side_effects.specs.Links.{Links, Sweeps}
 use Rattle.side_effects.proofs.FilterLemmas.{ties_with}
 use Rattle.side_effects.proofs.RemovesLemmas.{removed_is, removes-with_key}
-use Rattle.side_effects.proofs.ReachingLemmas.{or_left, or_right, or_cases}
+use Rattle.side_effects.proofs.ReachingLemmas.{or_cases}
+use Rattle.rooms_val.proofs.Truths.{or_left, or_right}
 
 module _ {X : Type 0} where
   pub in_middle : (left : List X) (x : X) (rest : List X) → IsIn x (left ++ x ∷ rest)

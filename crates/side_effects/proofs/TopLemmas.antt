@@ -6,6 +6,7 @@ use Rattle.std.specs.Option.{option_map_or, option_and_then}
 use Rattle.std.specs.Ordering.{is_lt, ordering_reverse}
 use Rattle.std.proofs.lemmas.Cmp.{nat_list_cmp_total}
 use Rattle.std.proofs.lemmas.List.Sums.{fold_push}
+use Rattle.rooms_val.proofs.Truths.{is_Less}
 use Rattle.rooms_val.specs.Data.{Data, Pairs, text}
 use Rattle.rooms_val.specs.Kinds.{as_text, text_at}
 use Rattle.rooms_val.specs.Maps.{value_at, with_key, keys_of, order, ties, AreRising}
@@ -36,17 +37,12 @@ same_index : (j k : List ℕ) → is_lt (order j k) ≡ false → is_lt (order k
 same_index j k low high = same_key j k (order_by (order j k) low (ap is_lt (sym (nat_list_cmp_total.antisymm k j)) ∙ high))
 
 -- nothing is less than what is greater: held is less than new, so an index that is at most held is at most new
-is_lt_is : (o : Ordering) → is_lt o ≡ true → o ≡ Less
-is_lt_is Less is = refl
-is_lt_is Equal is = absurd (let no : false ≡ true = is in (cc))
-is_lt_is Greater is = absurd (let no : false ≡ true = is in (cc))
-
 not_both : (o : Ordering) → o ≡ Less → is_lt o ≡ false → ⊥
 not_both o less none = let no : true ≡ false = sym (ap is_lt less) ∙ none in (cc)
 
 still_most : (i held new : List ℕ) → is_lt (order held i) ≡ false → is_lt (order held new) ≡ true → is_lt (order new i) ≡ false
 still_most i held new low up = elim (is_lt (order new i)) as (λ b. is_lt (order new i) ≡ b → b ≡ false) [
-  | true ↦ λ above. absurd (not_both (order held i) (nat_list_cmp_total.trans held new i (is_lt_is (order held new) up) (is_lt_is (order new i) above)) low)
+  | true ↦ λ above. absurd (not_both (order held i) (nat_list_cmp_total.trans held new i (is_Less (order held new) up) (is_Less (order new i) above)) low)
   | false ↦ λ _. refl
 ] refl
 

@@ -14,9 +14,9 @@ use Rattle.signal_values.specs.Cells.{row_of, atoms_of}
 use Rattle.signal_values.specs.Kept.{Leaves}
 use Rattle.signal_values.specs.Seen.{Seen, IsGot, IsFreshIn, value_in}
 use Rattle.signal_core.specs.Gots.{AreGot}
-
-same_get : {X : Type 0} (o : Option X) (x y : X) → o ≡ Some x → o ≡ Some y → x ≡ y
-same_get o x y p q = cc
+use Rattle.rooms_val.proofs.Truths.{one_some}
+use Rattle.signal_values.proofs.ListLemmas.{get_within}
+use Rattle.signal_values.proofs.KeptLemmas.{leaves_key}
 
 -- the changed epoch of an atom, in its row
 abbrev changed_of : {K V : Type 0} → Option (Row K V) → Option ℕ
@@ -68,7 +68,7 @@ changed_same {K} {V} cmp same_keys key (r ∷ rows) [] keeps made same = let k =
     no o e = cc
 changed_same {K} {V} cmp same_keys key (r ∷ rows) (s ∷ after) keeps made same =
     let k = keeps 0 r refl in
-    let one : s ≡ k.other = same_get (Some s) s k.other refl k.at in
+    let one : s ≡ k.other = one_some (Some s) s k.other refl k.at in
     at (is_eq (cmp r.key key)) refl (ap (λ (q : K). is_eq (cmp q key)) (ap (λ (t : Row K V). t.key) one ∙ k.key))
     (elim k.changed as (λ _. (s.changed ≡ r.changed) ⊎ (s.value ≢ r.value)) [
       | inl e ↦ inl (ap (λ (t : Row K V). t.changed) one ∙ e)
@@ -86,16 +86,6 @@ changed_same {K} {V} cmp same_keys key (r ∷ rows) (s ∷ after) keeps made sam
         let later_r = take_later r (row_of cmp rows key) (is_eq (cmp r.key key)) e in
         let later_s = take_later s (row_of cmp after key) (is_eq (cmp s.key key)) (f ∙ e) in
         ap changed_of later_s ∙ rest (λ row other h j. same row other (later_r ∙ h) (later_s ∙ j)) ∙ sym (ap changed_of later_r)
-
--- an element below the end is there
-get_within : {X : Type 0} (xs : List X) (i : ℕ) → i < length xs → (x : X) × (slice_get xs i ≡ Some x)
-get_within [] i low = absurd (omega (arith, low))
-get_within (x ∷ xs) zero low = (x, refl)
-get_within (x ∷ xs) (suc i) low = get_within xs i (omega (arith, low))
-
-leaves_key : {K V : Type 0} (epoch : ℕ) (fresh now : List Bool) (i : ℕ) (row other : Row K V) → Leaves epoch fresh now i row other → other.key ≡ row.key
-leaves_key {K} {V} epoch fresh now i row other (inl same) = ap (λ (r : Row K V). r.key) same.0
-leaves_key epoch fresh now i row other (inr computed) = computed.key
 
 -- the value of the row of an atom is its value
 atom_value : {K V : Type 0} (m : Meaning K V) (cmp : K → K → Ordering) (rows : List (Row K V)) (key : K) (row : Row K V) → row_of cmp rows key ≡ Some row → m.rank key ≡ 0 → atoms_of m cmp rows key ≡ row.value
@@ -166,7 +156,7 @@ got_twice {R} {K} {V} m cmp old middle new first last = record {
     | inl low ↦
         let s = get_within middle.rows i low in
         let b = later i s.0 s.1 in
-        let one : b.0 ≡ row = same_get (slice_get new.rows i) b.0 row b.1 h in
+        let one : b.0 ≡ row = one_some (slice_get new.rows i) b.0 row b.1 h in
         let key : row.key ≡ s.0.key = ap (λ (r : Row K V). r.key) (sym one) ∙ leaves_key old.epoch middle.fresh new.fresh i s.0 b.0 b.2 in
         ap (λ (r : Row K V). r.changed) (sym one) ∙ again i s.0 b.0 (first.made i s.0 s.1 far (subst (λ (k : K). 0 < m.rank k) key high)) b.2
     | inr high_row ↦ last.made i row h high_row high ∙ ap (λ (n : ℕ). Some n) first.epoch

@@ -3,9 +3,9 @@ pub mod TurnLemmas
 mod KeptLemmas
 mod HistoryLemmas
 mod PassingLemmas
-mod WrittenLemmas
+pub mod WrittenLemmas
 mod EntryLemmas
-mod FromLemmas
+pub mod FromLemmas
 mod UndoLemmas
 mod JournalLemmas
 mod PutBackLemmas

@@ -6,12 +6,10 @@ use Rattle.std.proofs.lemmas.List.Elements.{filter-append}
 use Rattle.std.proofs.lemmas.Bool.Decides.{nat_tests}
 use Rattle.signal_txn.specs.declared.write.Write.{Write}
 use Rattle.signal_txn.specs.Since.{diff_of, diffs_after}
+use Rattle.rooms_val.proofs.Truths.{lt_false}
 
 lt_true : (a b : ℕ) → a < b → nat_lt a b ≡ true
 lt_true a b h = grind (arith, nat_tests)
-
-lt_false : (a b : ℕ) → b ≤ a → nat_lt a b ≡ false
-lt_false a b h = grind (arith, nat_tests)
 
 module _ {X : Type 0} where
   -- the items up to one and that one

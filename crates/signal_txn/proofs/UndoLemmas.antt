@@ -8,7 +8,6 @@ use Rattle.std.specs.declared.cmp.Ordering.{Ordering}
 use Rattle.signal_rules.specs.Meaning.{Meaning}
 use Rattle.signal_values.specs.declared.cells.Row.{Row}
 use Rattle.signal_values.specs.Cells.{row_of}
-use Rattle.signal_values.specs.Kept.{Leaves}
 use Rattle.signal_values.specs.Writes.{or_zero}
 use Rattle.signal_values.specs.Seen.{Seen, IsGot, IsSet, IsSetAt, IsListed, risen}
 use Rattle.signal_txn.specs.LastWrites.{LastWrites}
@@ -16,6 +15,7 @@ use Rattle.signal_txn.specs.Level.{Level, value_before, began_at, noted, unwritt
 use Rattle.signal_txn.specs.Seen.{HasWritten}
 use Rattle.signal_txn.specs.Undo.{AreKnown, AreUndoable}
 use Rattle.signal_txn.proofs.EntryLemmas.{IsExact, eq_same, same_or_not, written_after, written_key, written_stays, began_noted}
+use Rattle.signal_values.proofs.KeptLemmas.{leaves_key}
 
 -- Rows.
 
@@ -51,10 +51,6 @@ set_keeps {R} {K} {V} m cmp x old new key v epoch changes set k (i, row, at, is)
   | inl e ↦ subst (λ (q : K). IsListed new q) (sym e ∙ is) (set_listed m cmp x old new key v epoch changes set)
   | inr ne ↦ (i, row, set.rows i row at ne, is)
 ]
-
-leaves_key : {K V : Type 0} (epoch : ℕ) (fresh now : List Bool) (i : ℕ) (row other : Row K V) → Leaves epoch fresh now i row other → other.key ≡ row.key
-leaves_key {K} {V} epoch fresh now i row other (inl same) = ap (λ (r : Row K V). r.key) same.0
-leaves_key {K} {V} epoch fresh now i row other (inr computed) = computed.key
 
 pub got_keeps : {R K V : Type 0} (m : Meaning K V) (cmp : K → K → Ordering) (old new : Seen R K V) → IsGot m cmp old new → (k : K) → IsListed old k → IsListed new k
 got_keeps {R} {K} {V} m cmp old new got k (i, row, at, is) =

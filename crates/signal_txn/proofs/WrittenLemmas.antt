@@ -15,7 +15,7 @@ use Rattle.signal_txn.proofs.HistoryLemmas.{keeps_joined, keeps_noted}
 use Rattle.signal_txn.proofs.PassingLemmas.{journal, passes_joined, passes_noted, passes_in_turn}
 use Rattle.signal_txn.proofs.TurnLemmas.{turned_noted}
 
-risen_below : (epoch next : ℕ) → next ≡ risen epoch → next < top → next ≡ suc epoch
+pub risen_below : (epoch next : ℕ) → next ≡ risen epoch → next < top → next ≡ suc epoch
 risen_below epoch next is below = at (nat_lt epoch top) refl
   where
     at : (b : Bool) → nat_lt epoch top ≡ b → next ≡ suc epoch
@@ -25,7 +25,7 @@ risen_below epoch next is below = at (nat_lt epoch top) refl
         let yes_ : nat_lt epoch top ≡ true = ap (λ n. nat_lt n top) (sym r) ∙ lt-ltb next top below in
         cc
 
-risen_above : (epoch : ℕ) → epoch ≤ risen epoch
+pub risen_above : (epoch : ℕ) → epoch ≤ risen epoch
 risen_above epoch = at (nat_lt epoch top)
   where
     at : (b : Bool) → epoch ≤ cond b (epoch + 1) epoch

@@ -12,6 +12,7 @@ use Rattle.signal_values.specs.Cells.{IsFresh, HaveAtoms, Serves, IsCurrent, IsG
 use Rattle.signal_values.specs.Kept.{IsConnected, HasRun}
 use Rattle.signal_values.proofs.MarkLemmas.{dec_fresh, dec_row}
 use Rattle.signal_values.proofs.ListLemmas.{get_keep, get_last, get_cases, set_same, set_other, set_cases, get_within}
+use Rattle.rooms_val.proofs.Truths.{one_some}
 
 -- fresh rows are there, and fresh
 abbrev pub KeepsFresh : {K V : Type 0} → List (Row K V) → List Bool → List (Row K V) → List Bool → Type 0
@@ -23,9 +24,6 @@ pub serves_kept : {K V : Type 0} (m : Meaning K V) (atoms : K → V) (rows : Lis
 serves_kept m atoms rows fresh after now keeps p key s =
     let q = keeps p s.row s.at s.ready in
     record { row = s.row; at = q.0; ready = q.1; lower = s.lower; passes = s.passes }
-
-same_get : {X : Type 0} (o : Option X) (x y : X) → o ≡ Some x → o ≡ Some y → x ≡ y
-same_get o x y p q = cc
 
 -- what is current stays so
 pub current_kept : {K V : Type 0} (m : Meaning K V) (atoms : K → V) (rows : List (Row K V)) (fresh : List Bool) (after : List (Row K V)) (now : List Bool) → KeepsFresh rows fresh after now
@@ -60,7 +58,7 @@ graph_from {K} {V} m atoms rows fresh children after now lists g have columns di
       elim (dec_fresh fresh i) [
         | inl was ↦
             let there = get_within rows i (omega (arith, slice_get_within fresh i true was, g.columns)) in
-            let same : there.0 ≡ row = same_get (slice_get after i) there.0 row (keeps i there.0 there.1 was).0 h in
+            let same : there.0 ≡ row = one_some (slice_get after i) there.0 row (keeps i there.0 there.1 was).0 h in
             subst (λ (r : Row K V). IsCurrent m atoms after now (λ p. Feeds lists p i) r) same
             (current_kept m atoms rows fresh after now keeps (λ p. Feeds children p i) (λ p. Feeds lists p i) (to i was) (from i was) there.0 (g.current i there.0 there.1 was))
         | inr stale ↦ new i row h f stale
@@ -149,7 +147,7 @@ graph_written {K} {V} m atoms rows fresh children i row other g here same stale 
           ];
       absent = λ key e none. g.atoms_are.absent key e (λ j r h is.
           elim (dec_row j i) [
-            | inl at ↦ let one : r ≡ row = same_get (slice_get rows i) r row (subst (λ (n : ℕ). slice_get rows n ≡ Some r) at h) here in
+            | inl at ↦ let one : r ≡ row = one_some (slice_get rows i) r row (subst (λ (n : ℕ). slice_get rows n ≡ Some r) at h) here in
                 high (ap m.rank (ap (λ (x : Row K V). x.key) (sym one) ∙ is) ∙ e)
             | inr ne ↦ none j r (set_other rows i j other ne ∙ h) is
           ]);
@@ -192,7 +190,7 @@ graph_joined {K} {V} m atoms rows fresh children lists i row parents g here stal
     (λ j r h f none.
     elim (dec_row j i) [
       | inl at ↦
-          let one : row ≡ r = same_get (slice_get rows i) row r here (subst (λ (n : ℕ). slice_get rows n ≡ Some r) at h) in
+          let one : row ≡ r = one_some (slice_get rows i) row r here (subst (λ (n : ℕ). slice_get rows n ≡ Some r) at h) in
           subst (λ (n : ℕ). IsCurrent m atoms rows (set fresh i true) (λ p. Feeds lists p n) r) (sym at) (subst (λ (s : Row K V). IsCurrent m atoms rows (set fresh i true) (λ p. Feeds lists p i) s) one is)
       | inr other ↦ absurd (none (sym (set_other fresh i j true other) ∙ f))
     ])

@@ -15,9 +15,7 @@ use Rattle.signal_values.proofs.ListLemmas.{get_keep, get_last, get_cases, set_s
 use Rattle.signal_values.proofs.AtomLemmas.{IsExact, eq_same, same_eq, atoms_same}
 use Rattle.signal_values.proofs.MarkLemmas.{dec_row}
 use Rattle.signal_values.proofs.GraphLemmas.{KeepsFresh}
-
-same_get : {X : Type 0} (o : Option X) (x y : X) → o ≡ Some x → o ≡ Some y → x ≡ y
-same_get o x y p q = cc
+use Rattle.rooms_val.proofs.Truths.{one_some}
 
 -- a key that isn't found has no row
 pub absent_row : {K V : Type 0} (cmp : K → K → Ordering) (places : BTreeMap K ℕ) (rows : List (Row K V)) (key : K) → IsIndex cmp places rows → get cmp places key ≡ None → (i : ℕ) (row : Row K V) → slice_get rows i ≡ Some row → row.key ≡ key → ⊥
@@ -64,7 +62,7 @@ index_written {K} {V} cmp places rows i row other index here same = record {
       let was = index.found key j h in
       elim (dec_row j i) [
         | inl at ↦
-            let one : row ≡ was.0 = same_get (slice_get rows i) row was.0 here (subst (λ (n : ℕ). slice_get rows n ≡ Some was.0) at was.1) in
+            let one : row ≡ was.0 = one_some (slice_get rows i) row was.0 here (subst (λ (n : ℕ). slice_get rows n ≡ Some was.0) at was.1) in
             (other, subst (λ (n : ℕ). slice_get (set rows i other) n ≡ Some other) (sym at) (set_same rows i other (slice_get_within rows i row here)), same ∙ ap (λ (r : Row K V). r.key) one ∙ was.2)
         | inr ne ↦ (was.0, set_other rows i j other ne ∙ was.1, was.2)
       ];
@@ -109,7 +107,7 @@ kept_twice {K} {V} m epoch rows fresh middle then_ after now first ready last = 
         | inl low ↦
             let s = get_within middle i low in
             let b = last.left i s.0 s.1 in
-            subst (λ (r : Row K V). IsMade m epoch r) (same_get (slice_get after i) b.0 row b.1 h) (again i s.0 b.0 s.1 (first.made i s.0 s.1 far) b.2)
+            subst (λ (r : Row K V). IsMade m epoch r) (one_some (slice_get after i) b.0 row b.1 h) (again i s.0 b.0 s.1 (first.made i s.0 s.1 far) b.2)
         | inr high ↦ last.made i row h high
       ];
 }
@@ -166,7 +164,7 @@ place_low cmp cells key i index found = let q = index.found key i found in slice
 pub stale_key : {K V : Type 0} (cmp : K → K → Ordering) (cells : Cells K V) (key : K) (i : ℕ) → IsIndex cmp cells.places cells.rows.items → get cmp cells.places key ≡ Some i → slice_get cells.fresh.items i ≡ Some false → IsFreshKey cells.rows.items cells.fresh.items key → ⊥
 stale_key {K} {V} cmp cells key i index found stale (j, row, at, is, ready) =
     let also : get cmp cells.places key ≡ Some j = subst (λ (k : K). get cmp cells.places k ≡ Some j) is (index.listed j row at) in
-    let same : i ≡ j = same_get (get cmp cells.places key) i j found also in
+    let same : i ≡ j = one_some (get cmp cells.places key) i j found also in
     no (slice_get cells.fresh.items j) (subst (λ (n : ℕ). slice_get cells.fresh.items n ≡ Some false) same stale) ready
   where
     no : (o : Option Bool) → o ≡ Some false → o ≡ Some true → ⊥

@@ -1,10 +1,10 @@
 mod RowLemmas
 mod WiredLemmas
 mod MarkLemmas
-mod ListLemmas
+pub mod ListLemmas
 mod AtomLemmas
 mod GraphLemmas
-mod KeptLemmas
+pub mod KeptLemmas
 mod SettleLemmas
 mod AskLemmas
 mod WriteLemmas

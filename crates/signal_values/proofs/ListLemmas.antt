@@ -9,6 +9,7 @@ use Rattle.links_core.specs.Lists.{list_at}
 use Rattle.signal_values.specs.Edges.{Feeds}
 use Rattle.signal_values.specs.Kept.{IsConnected}
 use Rattle.signal_values.proofs.RowLemmas.{push_cases, push_has, push_keeps}
+use Rattle.rooms_val.proofs.Truths.{if_ok_then, on_err_then}
 
 pub get_keep : {X : Type 0} (xs : List X) (x y : X) (i : ℕ) → slice_get xs i ≡ Some y → slice_get (xs ++ x ∷ []) i ≡ Some y
 get_keep [] x y i h = absurd (cc)
@@ -95,14 +96,6 @@ if_some {A} o Q x e h = let P : Option A → Type 0 = λ p. IfSome p Q in subst 
 pub either : {A E : Type 0} (r : Result A E) (P : A → Type 0) (Q G : Type 0) → IfOk r P → OnErr r Q → ((x : A) → P x → G) → (Q → G) → G
 either (Ok x) P Q G p q f h = f x p
 either (Err e) P Q G p q f h = h q
-
-pub ok_then : {A E : Type 0} (r : Result A E) (P R : A → Type 0) → IfOk r P → ((x : A) → P x → R x) → IfOk r R
-ok_then (Ok x) P R p f = f x p
-ok_then (Err e) P R p f = p
-
-pub err_then : {A E : Type 0} (r : Result A E) (P Q : Type 0) → OnErr r P → (P → Q) → OnErr r Q
-err_then (Ok x) P Q p f = p
-err_then (Err e) P Q p f = f p
 
 pub ok_both : {A E : Type 0} (r : Result A E) (P Q R : A → Type 0) → IfOk r P → IfOk r Q → ((x : A) → P x → Q x → R x) → IfOk r R
 ok_both (Ok x) P Q R p q f = f x p q

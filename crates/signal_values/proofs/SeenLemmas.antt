@@ -22,9 +22,7 @@ use Rattle.signal_values.proofs.MarkLemmas.{dec_row}
 use Rattle.signal_values.proofs.AtomLemmas.{IsExact, HasRow, HasNone, row_cases, row_of_set, row_of_append, atoms_same, atoms_there}
 use Rattle.signal_values.proofs.KeptLemmas.{keeps_fresh}
 use Rattle.signal_values.proofs.WriteLemmas.{differs_at}
-
-same_get : {X : Type 0} (o : Option X) (x y : X) → o ≡ Some x → o ≡ Some y → x ≡ y
-same_get o x y p q = cc
+use Rattle.rooms_val.proofs.Truths.{if_ok_then, on_ok_anyway, one_some}
 
 -- cells as contracts see them
 abbrev pub seen : {R K V : Type 0} → R → Cells K V → ℕ → Seen R K V
@@ -50,14 +48,6 @@ value_from {R} {K} {V} m cmp law rules old new epoch key i left found = record {
   ready = found.ready;
 }
 
-pub ok_so : {A E : Type 0} (r : Result A E) (P Q : A → Type 0) → IfOk r P → ((x : A) → P x → Q x) → IfOk r Q
-ok_so (Ok x) P Q p f = f x p
-ok_so (Err e) P Q p f = p
-
-pub on_ok : {A E : Type 0} (r : Result A E) (P : Type 0) → P → OnOk r P
-on_ok (Ok x) P p = p
-on_ok (Err e) P p = tt
-
 -- the row of a key, as the index has it
 pub row_at : {K V : Type 0} (cmp : K → K → Ordering) → IsExact cmp → (cells : Cells K V) (key : K) (i : ℕ) (row : Row K V)
     → ((j k : ℕ) (r s : Row K V) → slice_get cells.rows.items j ≡ Some r → slice_get cells.rows.items k ≡ Some s → r.key ≡ s.key → j ≡ k)
@@ -67,7 +57,7 @@ row_at {K} {V} cmp x cells key i row distinct at is = by_cases (row_cases cmp x 
     by_cases : HasRow cmp cells.rows.items key ⊎ HasNone cmp cells.rows.items key → row_of cmp cells.rows.items key ≡ Some row
     by_cases (inl has) =
         let e : i ≡ has.i = distinct i has.i row has.row at has.at (is ∙ sym has.is) in
-        has.found ∙ ap (λ (r : Row K V). Some r) (same_get (slice_get cells.rows.items has.i) has.row row has.at (subst (λ (n : ℕ). slice_get cells.rows.items n ≡ Some row) e at))
+        has.found ∙ ap (λ (r : Row K V). Some r) (one_some (slice_get cells.rows.items has.i) has.row row has.at (subst (λ (n : ℕ). slice_get cells.rows.items n ≡ Some row) e at))
     by_cases (inr none) = absurd (none.none i row at is)
 
 pub no_row_of : {K V : Type 0} (cmp : K → K → Ordering) → IsExact cmp → (rows : List (Row K V)) (key : K) → ((i : ℕ) (row : Row K V) → slice_get rows i ≡ Some row → row.key ≡ key → ⊥) → row_of cmp rows key ≡ None
@@ -95,7 +85,7 @@ set_is {R} {K} {V} m cmp x rules old middle new epoch after time key i row v cha
     let kept : (j : ℕ) (r : Row K V) → slice_get middle.rows.items j ≡ Some r → (s : Row K V) × (slice_get new.rows.items j ≡ Some s) × (s.key ≡ r.key) = λ j r h.
     elim (dec_row j i) [
       | inl e ↦
-          let one : r ≡ row = same_get (slice_get middle.rows.items i) r row (subst (λ (n : ℕ). slice_get middle.rows.items n ≡ Some r) e h) at in
+          let one : r ≡ row = one_some (slice_get middle.rows.items i) r row (subst (λ (n : ℕ). slice_get middle.rows.items n ≡ Some r) e h) at in
           (other, subst (λ (n : ℕ). slice_get new.rows.items n ≡ Some other) (sym e) new_at, same_key ∙ ap (λ (s : Row K V). s.key) (sym one))
       | inr ne ↦ (r, in_new j r (set_other middle.rows.items i j other ne ∙ h), refl)
     ] in
@@ -119,7 +109,7 @@ set_is {R} {K} {V} m cmp x rules old middle new epoch after time key i row v cha
         new_changed ∙ changed_false changes e ∙ ap or_zero (sym changed),
         λ k (j, r, h, s, f). let q = kept j r (keep j r h) in (j, q.0, q.1, q.2 ∙ s, subst (λ (bs : List Bool). IsFresh bs j) (sym (w.same e).1) (stay j f)),
       );
-      rows = λ j r h ne. in_new j r (set_other middle.rows.items i j other (λ e. ne (ap (λ (s : Row K V). s.key) (same_get (slice_get middle.rows.items i) r row (subst (λ (n : ℕ). slice_get middle.rows.items n ≡ Some r) e (keep j r h)) at) ∙ is)) ∙ keep j r h);
+      rows = λ j r h ne. in_new j r (set_other middle.rows.items i j other (λ e. ne (ap (λ (s : Row K V). s.key) (one_some (slice_get middle.rows.items i) r row (subst (λ (n : ℕ). slice_get middle.rows.items n ≡ Some r) e (keep j r h)) at) ∙ is)) ∙ keep j r h);
       changed = λ k ne. ap (option_and_then (λ (r : Row K V). r.changed)) (ap (λ (rs : List (Row K V)). row_of cmp rs k) w.rows ∙ row_of_set cmp x middle.rows.items i row other k at same_key (λ e. ne (e ∙ is)) ∙ others k ne);
       apart = λ k (j, r, h, s, f) away.
           let q = kept j r (keep j r h) in
@@ -155,7 +145,7 @@ pub listed_read : {K V : Type 0} (m : Meaning K V) (cmp : K → K → Ordering) 
     → ((j : ℕ) (row : Row K V) → slice_get old.rows.items j ≡ Some row → row.key ≡ key → ⊥) → IsLeft m cmp epoch old new → IsFreshAt new key i → IsRead old new i → HasListed cmp old new key i
 listed_read {K} {V} m cmp x epoch old new key i columns absent left found read =
     let at : slice_get new.rows.items i ≡ Some read.row = subst (λ (rs : List (Row K V)). slice_get rs i ≡ Some read.row) (sym read.rows) (subst (λ (n : ℕ). slice_get (old.rows.items ++ read.row ∷ []) n ≡ Some read.row) (sym read.place) (get_last old.rows.items read.row)) in
-    let key_is : read.row.key ≡ key = ap (λ (r : Row K V). r.key) (same_get (slice_get new.rows.items i) read.row found.row at found.at) ∙ found.is in
+    let key_is : read.row.key ≡ key = ap (λ (r : Row K V). r.key) (one_some (slice_get new.rows.items i) read.row found.row at found.at) ∙ found.is in
     record {
       row = read.row;
       at = at;
@@ -172,7 +162,7 @@ listed_read {K} {V} m cmp x epoch old new key i columns absent left found read =
 pub changed_at_row : {K V : Type 0} (cmp : K → K → Ordering) → IsExact cmp → (m : Meaning K V) (atoms : K → V) (cells : Cells K V) (key : K) (i : ℕ) (row : Row K V) → IsSound m cmp atoms cells → slice_get cells.rows.items i ≡ Some row → get cmp cells.places key ≡ Some i → row.changed ≡ option_and_then (λ (r : Row K V). r.changed) (row_of cmp cells.rows.items key)
 changed_at_row {K} {V} cmp x m atoms cells key i row sound at found =
     let q = sound.index.found key i found in
-    let one : row ≡ q.0 = same_get (slice_get cells.rows.items i) row q.0 at q.1 in
+    let one : row ≡ q.0 = one_some (slice_get cells.rows.items i) row q.0 at q.1 in
     sym (ap (option_and_then (λ (r : Row K V). r.changed)) (row_at cmp x cells key i row sound.graph.distinct at (ap (λ (r : Row K V). r.key) one ∙ q.2)))
 
 no_some : (o : Option ℕ) (i : ℕ) → o ≡ None → o ≡ Some i → ⊥

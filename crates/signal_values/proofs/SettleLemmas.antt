@@ -17,9 +17,7 @@ use Rattle.signal_values.proofs.MarkLemmas.{dec_row}
 use Rattle.signal_values.proofs.AtomLemmas.{IsExact}
 use Rattle.signal_values.proofs.GraphLemmas.{KeepsFresh, serves_kept, graph_from, graph_added, graph_written, graph_joined}
 use Rattle.signal_values.proofs.KeptLemmas.{index_added, index_written, index_same, kept_none, keeps_fresh}
-
-same_get : {X : Type 0} (o : Option X) (x y : X) → o ≡ Some x → o ≡ Some y → x ≡ y
-same_get o x y p q = cc
+use Rattle.rooms_val.proofs.Truths.{one_some}
 
 -- a run's parents still serve where fresh rows are kept
 pub run_kept : {K V : Type 0} (m : Meaning K V) (atoms : K → V) (rows : List (Row K V)) (fresh : List Bool) (after : List (Row K V)) (now : List Bool) (key : K) (v : V) (parents : List ℕ)
@@ -97,7 +95,7 @@ known_left {K} {V} m cmp eq exact itself epoch atoms old new i row other v paren
         left = λ j r h.
             elim (dec_row j i) [
               | inl same ↦
-                  let one : row ≡ r = same_get (slice_get rows i) row r here (subst (λ (n : ℕ). slice_get rows n ≡ Some r) same h) in (
+                  let one : row ≡ r = one_some (slice_get rows i) row r here (subst (λ (n : ℕ). slice_get rows n ≡ Some r) same h) in (
                     other,
                     subst (λ (n : ℕ). slice_get (set rows i other) n ≡ Some other) (sym same) at,
                     subst (λ (n : ℕ). Leaves epoch fresh (set fresh i true) n r other) (sym same) (subst (λ (s : Row K V). Leaves epoch fresh (set fresh i true) i s other) one (renewed_leaves eq itself epoch v row other fresh (set fresh i true) i stale ready renewed)),

@@ -25,9 +25,7 @@ use Rattle.signal_values.proofs.MarkLemmas.{dec_fresh, dec_row}
 use Rattle.signal_values.proofs.ListLemmas.{set_same, set_other, set_cases, get_within}
 use Rattle.signal_values.proofs.AtomLemmas.{IsExact, HasRow, HasNone, row_cases, atoms_there}
 use Rattle.signal_values.proofs.KeptLemmas.{index_written, index_same, sound_here}
-
-pub same_get : {X : Type 0} (o : Option X) (x y : X) → o ≡ Some x → o ≡ Some y → x ≡ y
-same_get o x y p q = cc
+use Rattle.rooms_val.proofs.Truths.{one_some}
 
 -- what hangs on a row is some row's child
 has_parent : (children : List (List ℕ)) (on row : ℕ) → Hangs children on row → (p : ℕ) × Feeds children p row
@@ -40,14 +38,14 @@ hangs_meets : {K V : Type 0} (m : Meaning K V) (atoms : K → V) (rows : List (R
 hangs_meets {K} {V} m atoms rows fresh children g a _ _ (child on j h) row other at meets also =
     let c = g.current j other also (g.alive on j h) in
     let s = c.served on h in
-    s.passes a (subst (λ (r : Row K V). Meets m atoms a r.key) (same_get (slice_get rows on) row s.row at s.at) meets)
+    s.passes a (subst (λ (r : Row K V). Meets m atoms a r.key) (one_some (slice_get rows on) row s.row at s.at) meets)
 hangs_meets {K} {V} m atoms rows fresh children g a _ _ (deeper on middle j h rest) row other at meets also =
     let ready = g.alive on middle h in
     let mid = get_within rows middle (omega (arith, slice_get_within fresh middle true ready, g.columns)) in
     let c = g.current middle mid.0 mid.1 ready in
     let s = c.served on h in
     hangs_meets m atoms rows fresh children g a middle j rest mid.0 other mid.1
-    (s.passes a (subst (λ (r : Row K V). Meets m atoms a r.key) (same_get (slice_get rows on) row s.row at s.at) meets)) also
+    (s.passes a (subst (λ (r : Row K V). Meets m atoms a r.key) (one_some (slice_get rows on) row s.row at s.at) meets)) also
 
 -- an atom has no parents
 atom_alone : {K V : Type 0} (m : Meaning K V) (atoms : K → V) (rows : List (Row K V)) (fresh : List Bool) (children : List (List ℕ)) → IsGraph m atoms rows fresh children → (j : ℕ) (row : Row K V) → slice_get rows j ≡ Some row → m.rank row.key ≡ 0 → (p : ℕ) → Feeds children p j → ⊥
@@ -66,7 +64,7 @@ unmet {K} {V} m atoms rows fresh children i row lists now g here marked (suc n) 
     let w = c.whole above row.key (through other.key needed got above asked asks below) in
     let s = c.served w.parent w.feeds in
     let feeds = marked.marking.closed w.parent j ready w.feeds in
-    let same : s.row ≡ w.row = same_get (slice_get rows w.parent) s.row w.row s.at w.at in
+    let same : s.row ≡ w.row = one_some (slice_get rows w.parent) s.row w.row s.at w.at in
     let lower : m.rank w.row.key < m.rank other.key = subst (λ (r : Row K V). m.rank r.key < m.rank other.key) same s.lower in
     elim (dec_row w.parent i) [
       | inl e ↦ none_in_nil j (subst (λ (ws : List ℕ). Contains ws j) (ap (λ (k : ℕ). list_at lists k) e ∙ marked.none) feeds)
@@ -81,7 +79,7 @@ differs_at {K} {V} m cmp x atoms now rows i row other have has here same key low
   where
     at : HasRow cmp rows key ⊎ HasNone cmp rows key → atoms key ≡ now key
     at (inl r) =
-        let away : r.i ≢ i = λ e. ne (sym r.is ∙ ap (λ (s : Row K V). s.key) (same_get (slice_get rows i) r.row row (subst (λ (n : ℕ). slice_get rows n ≡ Some r.row) e r.at) here)) in
+        let away : r.i ≢ i = λ e. ne (sym r.is ∙ ap (λ (s : Row K V). s.key) (one_some (slice_get rows i) r.row row (subst (λ (n : ℕ). slice_get rows n ≡ Some r.row) e r.at) here)) in
         let low_row : m.rank r.row.key ≡ 0 = ap m.rank r.is ∙ low in
         ap atoms (sym r.is) ∙ sym (have.there r.i r.row r.at low_row) ∙ has.there r.i r.row (set_other rows i r.i other away ∙ r.at) low_row ∙ ap now r.is
     at (inr none) =
@@ -225,7 +223,7 @@ graph_touched {K} {V} m atoms rows fresh children i row other g here same value 
     there j r h =
         elim (dec_row j i) [
           | inl e ↦
-              let one : r ≡ row = same_get (slice_get rows i) r row (subst (λ (n : ℕ). slice_get rows n ≡ Some r) e h) here in
+              let one : r ≡ row = one_some (slice_get rows i) r row (subst (λ (n : ℕ). slice_get rows n ≡ Some r) e h) here in
               (other, subst (λ (n : ℕ). slice_get (set rows i other) n ≡ Some other) (sym e) (set_same rows i other (slice_get_within rows i row here)), same ∙ ap (λ (s : Row K V). s.key) (sym one))
           | inr ne ↦ (r, set_other rows i j other ne ∙ h, refl)
         ]

@@ -1,17 +1,15 @@
 -- One text is written of a saved room and what goes on from it.
-use Rattle.std.proofs.Common.{◌≡◌, ℕ, ◌+◌, ◌<◌, ◌≤◌, ◌⊎◌, inl, inr, pos, Bool, false, List, [], ◌∷◌, ◌++◌, length, codes, IsTrue, MatchOption, Option, Some, None, Result, Ok, Err, refl, sym, ap, subst, ◌∙◌, arith}
+use Rattle.std.proofs.Common.{◌≡◌, ℕ, ◌+◌, ◌<◌, ◌≤◌, ◌⊎◌, inl, inr, pos, Bool, false, List, [], ◌∷◌, ◌++◌, length, codes, IsTrue, MatchOption, Option, Some, None, Result, Ok, Err, refl, sym, ap, subst, ◌∙◌}
 use Rattle.std.specs.Result.{result_map_both}
-use Rattle.rooms_val.specs.Data.{Data, Pairs}
+use Rattle.rooms_val.proofs.Truths.{le_lt_absurd, one_ok, one_some}
+use Rattle.rooms_val.specs.Data.{Data}
 use Rattle.rooms_val.specs.Json.{value_of}
 use Rattle.rooms_val.specs.Maps.{seen}
 use Rattle.fault_texts.specs.Texts.{val_fault_text, line_fault_text, snap_fault_text, plan_fault_text, load_fault_text, bad_record_text}
 use Rattle.migrate_seq.specs.Plans.{migrations_at, plan_answer}
-use Rattle.migrate_steps.specs.Records.{migrated, raised_along, raised_map}
 use Rattle.migrate_seq.specs.Versions.{Versions}
 use Rattle.migrate_seq.specs.declared.fault.PlanFault.{PlanFault}
-use Rattle.migrate_steps.specs.declared.migration.Migration.{Migration}
 use Rattle.migrate_seq.specs.declared.place.Place.{Place}
-use Rattle.migrate_steps.specs.declared.step.Way.TheVariants.{Up}
 use Rattle.peer_schemas.specs.Clients.{schemas_of}
 use Rattle.peer_schemas.proofs.RoomLemmas.{same_decided, same_schemas}
 use Rattle.rec_format.specs.Events.{header_val}
@@ -51,13 +49,7 @@ use Rattle.world_views.specs.Views.{nobody_viewing}
 use Rattle.snapshot_jobs.specs.Restoring.{Beginning, refused_at, begins, SavedLine, IsUnfit, IsFit, Loads, TakesHeader, TakesSaved, WritesOn, Restores, saved_lines}
 use Rattle.snapshot_jobs.specs.Seeking.{First, found, nothing, first_line}
 use Rattle.snapshot_jobs.proofs.SameRoomLemmas.{same_fault, same_room}
-
--- one value of an answer
-the_some : {X : Type 0} (o : Option X) (a b : X) → o ≡ Some a → o ≡ Some b → a ≡ b
-the_some o a b one other = let same : Some a ≡ Some b = sym one ∙ other in cc
-
-the_ok : {T E : Type 0} (r : Result T E) (a b : T) → r ≡ Ok a → r ≡ Ok b → a ≡ b
-the_ok r a b one other = let same : Ok a ≡ Ok b = sym one ∙ other in cc
+use Rattle.migrate_steps.proofs.RecordLemmas.{each_alone, each_itself, each_after}
 
 the_err : {T E : Type 0} (r : Result T E) (a b : E) → r ≡ Err a → r ≡ Err b → a ≡ b
 the_err r a b one other = let same : Err a ≡ Err b = sym one ∙ other in cc
@@ -68,22 +60,19 @@ not_both r a b one other = absurd (let same : Ok a ≡ Err b = sym one ∙ other
 some_none : {X A : Type 0} (o : Option X) (a : X) → o ≡ Some a → o ≡ None → A
 some_none o a one other = absurd (let same : Some a ≡ None = sym one ∙ other in cc)
 
-too_far : {A : Type 0} (n m : ℕ) → n ≤ m → m < n → A
-too_far n m short far = absurd (omega (arith, short, far))
-
 -- ---- the first line
 
 -- a refused line has one text
 one_snap : (line : List ℕ) (f g : SnapFault) (a b : List ℕ) → RefusesLine line f → RefusesLine line g → snap_fault_text f ≡ Some a → snap_fault_text g ≡ Some b → a ≡ b
-one_snap line snap.LineTooLong snap.LineTooLong a b h k p q = the_some (snap_fault_text snap.LineTooLong) a b p q
-one_snap line snap.LineTooLong (snap.Val g) a b h k p q = too_far (length line) snapshot.LONGEST_LINE k.0 h
-one_snap line snap.LineTooLong snap.Shape a b h k p q = too_far (length line) snapshot.LONGEST_LINE k.0 h
-one_snap line (snap.Val f) snap.LineTooLong a b h k p q = too_far (length line) snapshot.LONGEST_LINE h.0 k
-one_snap line (snap.Val f) (snap.Val g) a b h k p q = the_some (val_fault_text g) a b (ap val_fault_text (sym (the_err (value_of line) f g h.1 k.1)) ∙ p) q
+one_snap line snap.LineTooLong snap.LineTooLong a b h k p q = one_some (snap_fault_text snap.LineTooLong) a b p q
+one_snap line snap.LineTooLong (snap.Val g) a b h k p q = le_lt_absurd (length line) snapshot.LONGEST_LINE k.0 h
+one_snap line snap.LineTooLong snap.Shape a b h k p q = le_lt_absurd (length line) snapshot.LONGEST_LINE k.0 h
+one_snap line (snap.Val f) snap.LineTooLong a b h k p q = le_lt_absurd (length line) snapshot.LONGEST_LINE h.0 k
+one_snap line (snap.Val f) (snap.Val g) a b h k p q = one_some (val_fault_text g) a b (ap val_fault_text (sym (the_err (value_of line) f g h.1 k.1)) ∙ p) q
 one_snap line (snap.Val f) snap.Shape a b h k p q = not_both (value_of line) k.1 f k.2 h.1
-one_snap line snap.Shape snap.LineTooLong a b h k p q = too_far (length line) snapshot.LONGEST_LINE h.0 k
+one_snap line snap.Shape snap.LineTooLong a b h k p q = le_lt_absurd (length line) snapshot.LONGEST_LINE h.0 k
 one_snap line snap.Shape (snap.Val g) a b h k p q = not_both (value_of line) h.1 g h.2 k.1
-one_snap line snap.Shape snap.Shape a b h k p q = the_some (snap_fault_text snap.Shape) a b p q
+one_snap line snap.Shape snap.Shape a b h k p q = one_some (snap_fault_text snap.Shape) a b p q
 one_snap line snap.OutOfMemory g a b h k p q = some_none (snap_fault_text snap.OutOfMemory) a p refl
 one_snap line snap.LineTooLong snap.OutOfMemory a b h k p q = some_none (snap_fault_text snap.OutOfMemory) b q refl
 one_snap line (snap.Val f) snap.OutOfMemory a b h k p q = some_none (snap_fault_text snap.OutOfMemory) b q refl
@@ -136,18 +125,6 @@ one_first_fault ds a b h k = elim (splits h.before k.before h.bad k.bad h.after 
 
 -- ---- what becomes of a saved room at a schema
 
-seen_same : (ps : Pairs) → ps ≡ seen (λ d. d) ps
-seen_same [] = refl
-seen_same (p ∷ ps) = ap (λ l. p ∷ l) (seen_same ps)
-
-seen_twice : (f g : Data → Data) (ps : Pairs) → seen g (seen f ps) ≡ seen (λ d. g (f d)) ps
-seen_twice f g [] = refl
-seen_twice f g (p ∷ ps) = ap (λ l. (p.0, g (f p.1)) ∷ l) (seen_twice f g ps)
-
-each_raised : (ms : List Migration) (ps : Pairs) → raised_map ms ps ≡ seen (raised_along ms) ps
-each_raised [] ps = seen_same ps
-each_raised (m ∷ ms) ps = each_raised ms (seen (migrated Up m) ps) ∙ seen_twice (migrated Up m) (raised_along ms) ps
-
 -- a saved room after a plan, by what the plan makes of a record
 abbrev along : (Plan → Data → Data) → SavedTree → Plan → SavedTree
 along raise s [] = s
@@ -164,7 +141,7 @@ raised_is schema held s (Err fault) = refl
 raised_is schema held s (Ok []) = refl
 raised_is schema held s (Ok (p ∷ plan)) =
     ap (λ ps. Ok (record { clock = next_clock s; start = s.start; documents = all_at (next_clock s) ps; tombstones = s.tombstones }))
-    (each_raised (migrations_at schema.sequences (p ∷ plan)) (by_id (records_of s.documents)))
+    (each_alone (migrations_at schema.sequences (p ∷ plan)) (by_id (records_of s.documents)))
 
 module _ (version : ℕ) (s t : SchemaTree) (one : IsSchemaAt version s) (other : IsSchemaAt version t) (saved : SavedTree) (held : Versions) where
   same_plan : plan_answer s.sequences held ≡ plan_answer t.sequences held
@@ -189,20 +166,20 @@ module _ (schema : SchemaTree) (saved : SavedTree) (held : Versions) where
   Made = raised schema.sequences held saved
 
   same_load : (a b : SavedRoom) → Made ≡ Ok (saved_tree a) → Made ≡ Ok (saved_tree b) → load_fault (decided schema) (pos LAST_CLOCK) a ≡ load_fault (decided schema) (pos LAST_CLOCK) b
-  same_load a b is also = same_fault a b (the_ok Made (saved_tree a) (saved_tree b) is also) (decided schema) (pos LAST_CLOCK)
+  same_load a b is also = same_fault a b (one_ok Made (saved_tree a) (saved_tree b) is also) (decided schema) (pos LAST_CLOCK)
 
   one_unfit : (a b : List ℕ) → IsUnfit schema saved held a → IsUnfit schema saved held b → a ≡ b
   one_unfit a b (inl h) (inl k) = h.2 ∙ ap bad_record_text (one_first_fault (records_of saved.documents) h.0 k.0 h.1 k.1) ∙ sym k.2
   one_unfit a b (inl h) (inr (inl k)) = absurd (no_ids (records_of saved.documents) h.0 h.1 k.1)
   one_unfit a b (inl h) (inr (inr k)) = absurd (no_ids (records_of saved.documents) h.0 h.1 k.2)
   one_unfit a b (inr (inl h)) (inl k) = absurd (no_ids (records_of saved.documents) k.0 k.1 h.1)
-  one_unfit a b (inr (inl h)) (inr (inl k)) = the_some (plan_fault_text k.0) a b (ap plan_fault_text (sym (the_err Made h.0 k.0 h.2 k.2)) ∙ h.3) k.3
+  one_unfit a b (inr (inl h)) (inr (inl k)) = one_some (plan_fault_text k.0) a b (ap plan_fault_text (sym (the_err Made h.0 k.0 h.2 k.2)) ∙ h.3) k.3
   one_unfit a b (inr (inl h)) (inr (inr k)) = not_both Made (saved_tree k.0) h.0 k.3 h.2
   one_unfit a b (inr (inr h)) (inl k) = absurd (no_ids (records_of saved.documents) k.0 k.1 h.2)
   one_unfit a b (inr (inr h)) (inr (inl k)) = not_both Made (saved_tree h.0) k.0 h.3 k.2
   one_unfit a b (inr (inr h)) (inr (inr k)) =
-      let same : h.1 ≡ k.1 = the_some (load_fault (decided schema) (pos LAST_CLOCK) k.0) h.1 k.1 (sym (same_load h.0 k.0 h.3 k.3) ∙ h.4) k.4 in
-      the_some (load_fault_text k.1) a b (ap load_fault_text (sym same) ∙ h.5) k.5
+      let same : h.1 ≡ k.1 = one_some (load_fault (decided schema) (pos LAST_CLOCK) k.0) h.1 k.1 (sym (same_load h.0 k.0 h.3 k.3) ∙ h.4) k.4 in
+      one_some (load_fault_text k.1) a b (ap load_fault_text (sym same) ∙ h.5) k.5
 
   not_fit : {A : Type 0} (a : List ℕ) (room : SavedRoom) → IsUnfit schema saved held a → IsFit schema saved held room → A
   not_fit a room (inl h) fit = absurd (no_ids (records_of saved.documents) h.0 h.1 fit.0)
@@ -210,7 +187,7 @@ module _ (schema : SchemaTree) (saved : SavedTree) (held : Versions) where
   not_fit a room (inr (inr h)) fit = some_none (load_fault (decided schema) (pos LAST_CLOCK) h.0) h.1 h.4 (same_load h.0 room h.3 fit.1 ∙ fit.2)
 
   one_fit : (a b : SavedRoom) → IsFit schema saved held a → IsFit schema saved held b → begun_room LAST_CLOCK a ≡ begun_room LAST_CLOCK b
-  one_fit a b h k = same_room a b (the_ok Made (saved_tree a) (saved_tree b) h.1 k.1) LAST_CLOCK
+  one_fit a b h k = same_room a b (one_ok Made (saved_tree a) (saved_tree b) h.1 k.1) LAST_CLOCK
 
 -- ---- how what is read begins
 
@@ -236,7 +213,7 @@ module _ (whole : Bool) where
   one_header_begins from (found at line lines) b c (inl h) (inr k) = not_header line k.0 h.0 k.1 h.1
   one_header_begins from (found at line lines) b c (inr h) (inl k) = not_header line h.0 k.0 h.1 k.1
   one_header_begins from (found at line lines) b c (inr h) (inr k) =
-      let same : h.0 ≡ k.0 = one_header h.0 k.0 (the_ok (value_of line) (header_val h.0) (header_val k.0) h.1.0.1 k.1.0.1) in
+      let same : h.0 ≡ k.0 = one_header h.0 k.0 (one_ok (value_of line) (header_val h.0) (header_val k.0) h.1.0.1 k.1.0.1) in
       one_loads from k.0.version (at + 1) lines b c (subst (λ (x : Header). Loads from x.version whole (at + 1) lines b) same h.2) k.2
 
   one_begins : (first : First) (b c : Beginning) → TakesSaved whole first b → TakesSaved whole first c → b ≡ c
@@ -245,7 +222,7 @@ module _ (whole : Bool) where
   one_begins (found at line lines) b c (inl h) (inr k) = not_saved line h.0 h.1 k.0 k.1 h.2 h.3 k.2
   one_begins (found at line lines) b c (inr h) (inl k) = not_saved line k.0 k.1 h.0 h.1 k.2 k.3 h.2
   one_begins (found at line lines) b c (inr h) (inr k) =
-      let same = one_room h.0 k.0 h.1 k.1 h.2.rising k.2.rising (the_ok (value_of line) (line_val h.0 h.1) (line_val k.0 k.1) h.2.value k.2.value) in
+      let same = one_room h.0 k.0 h.1 k.1 h.2.rising k.2.rising (one_ok (value_of line) (line_val h.0 h.1) (line_val k.0 k.1) h.2.value k.2.value) in
       let from : SavedLine = record { at = at; saved = k.0; held = k.1 } in
       one_header_begins from (first_line format.LONGEST_LINE (at + 1) lines) b c
       (subst (λ (x : SavedLine). TakesHeader whole x (first_line format.LONGEST_LINE (at + 1) lines) b) (λ i. record { at = at; saved = same.0 i; held = same.1 i }) h.3) k.3

@@ -1,21 +1,18 @@
 -- The clock of a saved room that was read from a line is below 2^53, as each number is.
-use Rattle.std.proofs.Common.{◌≡◌, ℕ, nat_le, nat_lt, ◌^◌, ℤ, pos, negsuc, ◌<ℤ◌, Bool, true, false, ◌&&◌, cond, not, List, Some, None, Option, Ok, Err, Result, refl, sym, ap, subst, ◌∙◌, arith, codes, unwrap_or}
+use Rattle.std.proofs.Common.{◌≡◌, ℕ, nat_le, nat_lt, ◌^◌, ℤ, pos, negsuc, ◌<ℤ◌, true, false, ◌&&◌, cond, not, List, Some, None, Option, Ok, Err, Result, refl, sym, ap, subst, ◌∙◌, arith, codes, unwrap_or}
 use Rattle.std.proofs.lemmas.Bool.Decides.{nat_tests}
 use Rattle.std.proofs.lemmas.Int.{ints}
 use Rattle.serde_json.specs.Data as json
 use Rattle.serde_json.specs.Find.{as_i64}
 use Rattle.serde_json.specs.Written.{has_float}
 use Rattle.migrate_seq.specs.Versions.{Versions}
+use Rattle.rooms_val.proofs.Truths.{and_left}
 use Rattle.rooms_val.specs.Data.{Data, Members, null, boolean, whole, text, list, map, member, no_members, members_of}
 use Rattle.rooms_val.specs.Json.{json_at, checked, checked_if_read, value_of, value_in, members_in, is_within, members_are_within, is_in_range, whole_of, deepest, greatest_whole}
 use Rattle.rooms_val.specs.declared.fault.ValFault.{ValFault}
 use Rattle.rooms_val.specs.declared.fault.ValFault.TheVariants.{NotWhole, OutOfRange, TooDeep}
 use Rattle.room_snapshot.specs.Lines.{line_val, line_fields}
 use Rattle.room_snapshot.specs.Saved.{SavedTree}
-
-both_left : (a b : Bool) → a && b ≡ true → a ≡ true
-both_left true b is = refl
-both_left false b is = is
 
 whole_low : (n : json.Num) → is_in_range n ≡ true → whole_of n <ℤ pos (2 ^ 53)
 whole_low (json.unsigned n) range =
@@ -37,7 +34,7 @@ value_low (json.object ms) z is range = absurd (cc)
 
 members_low : (ms : json.Members) (z : ℤ) (k : List ℕ) (rest : Members) → members_in ms ≡ member k (whole z) rest → members_are_within ms ≡ true → z <ℤ pos (2 ^ 53)
 members_low json.no_members z k rest is range = absurd (cc)
-members_low (json.member l j ms) z k rest is range = let same : value_in j ≡ whole z = cc in value_low j z same (both_left _ _ range)
+members_low (json.member l j ms) z k rest is range = let same : value_in j ≡ whole z = cc in value_low j z same (and_left _ _ range)
 
 map_low : (j : json.Data) (z : ℤ) (k : List ℕ) (rest : Members) → value_in j ≡ map (member k (whole z) rest) → is_within j ≡ true → z <ℤ pos (2 ^ 53)
 map_low (json.object ms) z k rest is range = let same : members_in ms ≡ member k (whole z) rest = cc in members_low ms z k rest same range

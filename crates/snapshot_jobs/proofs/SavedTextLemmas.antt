@@ -26,6 +26,7 @@ use Rattle.world_laws.proofs.DiffLemmas.{room_reached}
 use Rattle.world_views.specs.Views.{Viewed}
 use Rattle.world_views.proofs.LeavingLemmas.{leaves}
 use Rattle.snapshot_jobs.specs.Saving.{Outcome, refused_at, ends_in, Comes, IsRoomLine, WritesOutcome, Saves}
+use Rattle.replay_job.proofs.CaughtUpLemmas.{the_next}
 
 -- once there is a world, the tables decide, and it can be reached
 abbrev IsReached : Progress → Type 0
@@ -36,9 +37,6 @@ IsReached (Some (schemas, viewed)) = AreOfTables schemas × ReachableWorld schem
 abbrev IsThere : Progress → Type 0
 IsThere None = ⊥
 IsThere (Some (schemas, viewed)) = AreOfTables schemas × ReachableWorld schemas viewed.world
-
-the_next : (out more : List PrintedLine) (next last : Progress) → passed out next ≡ passed more last → last ≡ next
-the_next out more next last is = cc
 
 not_passed : (out more : List PrintedLine) (next last : Progress) → ended out next ≡ passed more last → ⊥
 not_passed out more next last is = cc

@@ -5,6 +5,7 @@ use Rattle.std.specs.List.{list_all}
 use Rattle.std.specs.Option.{option_map_or}
 use Rattle.std.proofs.lemmas.List.{length-map, get_or-map}
 use Rattle.std.proofs.lemmas.List.Elements.{All-head, All-tail}
+use Rattle.rooms_val.proofs.Truths.{and_left}
 use Rattle.rooms_val.specs.Data.{Data, Pairs, members_of, IsSound, map as map_data}
 use Rattle.rooms_val.specs.Maps.{order, ties, AreRising, value_at, keys_of}
 use Rattle.rooms_val.proofs.MapsLemmas.{order_itself, by_tie, none_later, rising_rest}
@@ -16,10 +17,6 @@ use Rattle.shape_tree.specs.declared.query.Query.TheVariants as query
 use Rattle.shape_tree.specs.declared.query.Query.TheOpen.{Query-F}
 use Rattle.shape_tree.specs.declared.query.Query.TheFolds.{fold-roll-Query}
 use Rattle.store_query.specs.Asking.{meets_at, AreCandidates}
-
-first_true : (a b : Bool) → (a && b) ≡ true → a ≡ true
-first_true true b is = refl
-first_true false b is = cc
 
 found_at : (m : Pairs) (i : ℕ) (d : List ℕ × Data) → AreRising m → i < length m → value_at m (get_or m i d).0 ≡ Some (get_or m i d).1
 found_at [] i d rising within = absurd (omega arith)
@@ -71,7 +68,7 @@ module _ (m : Pairs) (type : List ℕ) (query : Query) where
 
   pub part_is : AreRising m → (part : Query) → ((d : Data) → meets d query ≡ true → meets d part ≡ true) → AreCandidates m type query (ids_meeting m type part)
   part_is rising part implied =
-      met_among (λ e. is_id_of type e.0 && meets e.1 part) (λ e is. first_true (is_id_of type e.0) (meets e.1 part) is)
+      met_among (λ e. is_id_of type e.0 && meets e.1 part) (λ e is. and_left (is_id_of type e.0) (meets e.1 part) is)
       (λ e id met. ap (λ b. b && meets e.1 part) id ∙ implied e.1 met) m (pairs_found m rising)
 
 pub all_true : (bs : List Bool) (i : ℕ) (d : Bool) → i < length bs → list_all (λ met. met) bs ≡ true → get_or bs i d ≡ true

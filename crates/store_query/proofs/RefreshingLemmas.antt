@@ -1,6 +1,5 @@
 -- An index after writes of records, and after a walk over all records.
-use Rattle.std.proofs.Common.{◌≡◌, ℕ, zero, suc, ◌+◌, ◌<◌, List, [], ◌∷◌, ◌++◌, take, drop, drop-cons, length, get_or, Option, Some, Result, Ok, Err, refl, sym, ap, subst, ◌∙◌, arith}
-use Rattle.std.specs.Prelude.{OnOk}
+use Rattle.std.proofs.Common.{◌≡◌, ℕ, zero, suc, ◌+◌, ◌<◌, List, [], ◌∷◌, ◌++◌, take, drop, drop-cons, length, get_or, Option, Some, refl, sym, ap, subst, ◌∙◌, arith}
 use Rattle.std.proofs.lemmas.List.{take_more, take-append-drop, append-nil}
 use Rattle.rooms_val.specs.Data.{Data, Pairs}
 use Rattle.rooms_val.specs.Maps.{AreRising, value_at, set_at, with_key}
@@ -46,11 +45,6 @@ rising_front a (e ∷ b) rising = rising_front a b (rising_without a e b rising)
 
 pub rising_take : (m : Pairs) (i : ℕ) → AreRising m → AreRising (take i m)
 rising_take m i rising = rising_front (take i m) (drop i m) (subst AreRising (sym (take-append-drop i m)) rising)
-
--- what holds where a call succeeds
-pub through : {T E : Type 0} (r : Result T E) (P Q : Type 0) → (P → Q) → OnOk r P → OnOk r Q
-through (Ok x) P Q f h = f h
-through (Err e) P Q f h = tt
 
 -- the first pairs of a map, and one more by its key
 module _ (m : Pairs) (rising : AreRising m) (i : ℕ) (d : List ℕ × Data) (within : i < length m) where

@@ -1,6 +1,6 @@
 -- What a client stands for after its calls.
 use Rattle.std.proofs.Common.{◌≡◌, ◌≤◌, ◌<◌, ◌+◌, ◌-◌, ℕ, suc, ℤ, List, [], ◌∷◌, ◌++◌, length, map, drop, Bool, true, false, cond, ◌&&◌, Option, Some, None, option_map, slice_get, Result, Ok, Err, refl, sym, ap, subst, ◌∙◌, arith}
-use Rattle.std.specs.Prelude.{filter_map, decimal, option_to_list, unwrap_or, nat_lt, nat_le, is_none, sum_by, OnOk, OnErr}
+use Rattle.std.specs.Prelude.{filter_map, decimal, option_to_list, unwrap_or, nat_lt, nat_le, is_none, sum_by, OnErr}
 use Rattle.std.proofs.lemmas.List.{map-append, drop-drop, length-append, length-map, length-drop}
 use Rattle.std.proofs.lemmas.Option.{slice_get_within}
 use Rattle.std.proofs.lemmas.List.Sums.{sum_by-cons}
@@ -39,10 +39,6 @@ use Rattle.sync_client.specs.Standing.{Stands}
 use Rattle.sync_client.specs.declared.client.SyncClient.{SyncClient}
 use Rattle.sync_client.specs.declared.counts.Counts.{Counts}
 use Rattle.sync_client.proofs.NumberLemmas.{diffs-pending, first_unsent-numbered, sent-numbered, numbered-append, numbered-drop}
-
-pub on_ok : {T E A B : Type 0} (r : Result T E) → (A → B) → OnOk r A → OnOk r B
-on_ok (Ok x) f a = f a
-on_ok (Err e) f a = a
 
 pub on_err : {T E A B : Type 0} (r : Result T E) → (A → B) → OnErr r A → OnErr r B
 on_err (Ok x) f a = a

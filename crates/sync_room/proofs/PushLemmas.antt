@@ -1,5 +1,5 @@
 -- What a connect and a push make of a room that agrees with one of the definitions.
-use Rattle.std.proofs.Common.{◌≡◌, ℕ, ℤ, Bool, true, false, List, [], ◌∷◌, ◌++◌, length, is_some, Option, Some, None, Result, Ok, Err, OnErr, refl, sym, ap, subst, ◌∙◌}
+use Rattle.std.proofs.Common.{◌≡◌, ℕ, ℤ, Bool, true, false, List, [], ◌∷◌, ◌++◌, length, is_some, Option, Some, None, Ok, refl, sym, ap, subst, ◌∙◌}
 use Rattle.rooms_val.specs.Data.{Pairs}
 use Rattle.rooms_val.specs.Maps.{AreRising}
 use Rattle.slab.specs.Slab.{get}
@@ -116,8 +116,3 @@ handles schemas state room after decides key number s h at is unended said read 
     subst (λ n. Replies (model.after_message schemas state n read) reply after) is
     (subst (λ m. Replies (model.after_message schemas state s.number m) reply after) (sym same)
     (replied schemas state room after decides key s h at said reply unended follows))
-
--- what holds after an error
-pub on_err_map : {A E : Type 0} (r : Result A E) (P Q : Type 0) → OnErr r P → (P → Q) → OnErr r Q
-on_err_map (Ok x) P Q h f = tt
-on_err_map (Err e) P Q h f = f h

@@ -1,5 +1,5 @@
 -- What the definitions give a session next, by its phase.
-use Rattle.std.proofs.Common.{◌≡◌, ℕ, suc, ◌+◌, ◌-◌, ◌≤◌, ◌<◌, ℤ, pos, nat_abs, nat_lt, Bool, true, false, cond, List, [], ◌∷◌, length, Option, Some, None, Result, Ok, Err, IfOk, refl, sym, ap, subst, ◌∙◌, arith}
+use Rattle.std.proofs.Common.{◌≡◌, ℕ, suc, ◌+◌, ◌-◌, ◌≤◌, ◌<◌, ℤ, pos, nat_abs, nat_lt, Bool, true, false, cond, List, [], ◌∷◌, length, Option, Some, None, refl, sym, ap, subst, ◌∙◌, arith}
 use Rattle.std.proofs.lemmas.Bool.Decides.{nat_tests}
 use Rattle.slab.specs.Slab.{get}
 use Rattle.room_model.specs.Histories.{History, above}
@@ -225,8 +225,3 @@ module _ (schemas : Schemas) (state : model.Room) (room after : Room) (decides :
   drains_message next given kind message sent =
       subst (λ n. Drains state n (model.next_for schemas state n) given after) is
       (sends schemas state room after decides key s h at (subst (IsNext s) message kind) given sent)
-
--- what holds of a result's value
-pub if_ok : {A E : Type 0} (r : Result A E) (P Q : A → Type 0) → IfOk r P → ((x : A) → P x → Q x) → IfOk r Q
-if_ok (Ok x) P Q h f = f x h
-if_ok (Err e) P Q h f = tt

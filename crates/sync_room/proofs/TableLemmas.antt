@@ -305,11 +305,6 @@ others_stay table after key s at updates other differs there = elim (cases_eq ot
   | inr apart ↦ (there.0, updates.others other.key apart ∙ there.1, there.2)
 ]
 
--- a slot that is taken has something
-pub some_there : {X : Type 0} (o : Option X) → is_some o ≡ true → (x : X) × (o ≡ Some x)
-some_there None is = absurd (cc)
-some_there (Some x) is = (x, refl)
-
 -- the session under a key with other client clocks, where it was read as another name of the session
 pub pushed_there : (table : Sessions) (key : ℕ) (read s t : Session) (clocks : List ℤ) → read ≡ s → t ≡ record read { pushed = t.pushed }
     → t.pushed.items ≡ read.pushed.items ++ clocks → (x : Session) × IsWithPushed (s.pushed.items ++ clocks) s x × (with_at key t table ≡ with_at key x table)

@@ -47,7 +47,7 @@ use Rattle.sync_world.proofs.OutcomeLemmas.{is_open_already, is_refused, has_no_
 use Rattle.sync_world.proofs.PartLemmas.{happened, fits_with}
 use Rattle.sync_world.proofs.EventLemmas.{IsThere, is_there, document_is, keeps_alike}
 use Rattle.sync_world.proofs.EditLemmas.{still_keeps}
-use Rattle.sync_world.proofs.RoomPeerLemmas.{lawful_of}
+use Rattle.peer_schemas.proofs.ClientLemmas.{lawful}
 
 -- who has no session is off
 off_is : (x : Connection) → session_of x ≡ None → x ≡ Off
@@ -201,7 +201,7 @@ module _ (schemas : WorldSchemas EditFault) (w : model.World) (live : Live) (kee
         let c = it.client in
         let history = w.room.history in
         let e = enters w.room keeps.fits.room in
-        let idle = (waiting_stand schemas (lawful_of schemas keeps.fits.tables) w keeps.reachable).idle at c it.made (ap is_open off) in
+        let idle = (waiting_stand schemas (lawful schemas keeps.fits.tables) w keeps.reachable).idle at c it.made (ap is_open off) in
         let still : Live = record new { clients = live.clients } in
         let alike = keeps_alike schemas w live keeps still (subst (λ r. room_of.Stands w.room r) (sym new_room) e.1.room) (ap room_of.tree_of new_room ∙ e.1.schema ∙ ap room_of.tree_of room) refl
         (ap to_room new_queues ∙ e.1.sent ∙ ap to_room queues) (ap to_client new_queues ∙ e.1.given ∙ ap to_client queues) in

@@ -48,7 +48,7 @@ use Rattle.sync_world.proofs.OutcomeLemmas.{delivers, delivers_nothing, delivers
 use Rattle.sync_world.proofs.TakeLemmas.{arrived, arrives}
 use Rattle.sync_world.proofs.PartLemmas.{happened, fits_with, fits_client, fits_idle, client_is, pushing_over}
 use Rattle.sync_world.proofs.EventLemmas.{IsThere, is_there, document_is, head_none, keeps_alike}
-use Rattle.sync_world.proofs.RoomPeerLemmas.{lawful_of}
+use Rattle.peer_schemas.proofs.ClientLemmas.{lawful}
 
 arrived_session : (history : History) (k : ℕ) (c : Client) (notice : Notice) → session_of c.connection ≡ Some k → session_of (arrived history k c notice).connection ≡ Some k
 arrived_session history k c (snapshot_at clock) is = refl
@@ -201,7 +201,7 @@ module _ (schemas : WorldSchemas EditFault) (w : model.World) (live : Live) (kee
           (sent ∙ keeps.fits.sent ∙ sym (sent_still w.channels k the_channel.0 (record the_channel.0 { to_client = next.1.0 }) the_channel.1 refl))
 
       law : IsExpected it.client k (told schemas w.room it.client k next.0) × IsTaken schemas w.room.history it.client (told schemas w.room it.client k next.0) (after_notice w.room.history k it.client next.0).client
-      law = takes_next schemas w at k it.client the_channel.0 next.0 next.1.0 (lawful_of schemas keeps.fits.tables) keeps.reachable it.made has the_channel.1 next.1.1.0
+      law = takes_next schemas w at k it.client the_channel.0 next.0 next.1.0 (lawful schemas keeps.fits.tables) keeps.reachable it.made has the_channel.1 next.1.1.0
 
       queues_are : queues_after schemas w (to_client live.queues) (event.Deliver at) ≡ without_first k (to_client live.queues)
       queues_are =

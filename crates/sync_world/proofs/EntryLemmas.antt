@@ -13,18 +13,15 @@ use Rattle.world_laws.proofs.PresenceLemmas.{reachable_removals}
 use Rattle.sync_world.specs.Standing.{Stands}
 use Rattle.sync_world.specs.Entries.{ReadonlyEditNothing, AuthorsNameTheirOwn, OthersRemovePresences}
 use Rattle.sync_world.specs.declared.world.World.{World}
-use Rattle.sync_world.proofs.RoomPeerLemmas.{lawful_of}
-
--- two items that stand at a place are the same
-the_same : {X : Type 0} (x y : X) → Some x ≡ Some y → x ≡ y
-the_same x y is = cc
+use Rattle.signal_txn.proofs.FromLemmas.{same_some}
+use Rattle.peer_schemas.proofs.ClientLemmas.{lawful as lawful_of}
 
 -- what is named by an entry at a place
 named_at : (schemas : WorldSchemas EditFault) (sessions : List Session) (history : History) → AllNamed schemas.room sessions history → (at : ℕ) (entry : Entry) (author : Author)
     → slice_get history at ≡ Some entry → entry.author ≡ Some author → IsNamedBy schemas.room sessions author.session entry.diff
 named_at schemas sessions [] all at entry author there by = absurd (cc)
 named_at schemas sessions (first ∷ history) all zero entry author there by =
-    let same = the_same first entry there in
+    let same = same_some first entry there in
     let P : Entry → Type 0 = λ e. e.author ≡ Some author → IsNamedBy schemas.room sessions author.session e.diff in
     subst P same (all.0 author) by
 named_at schemas sessions (first ∷ history) all (suc at) entry author there by = named_at schemas sessions history all.1 at entry author there by
@@ -34,7 +31,7 @@ module _ (code : World) where
   readonly schemas w at entry author session stands there by entered only =
       let lawful = lawful_of schemas stands.keeps.fits.tables in
       let named = named_at schemas w.room.sessions w.room.history (reachable_names schemas.room lawful.room w.room (room_reached schemas lawful w stands.keeps.reachable)) at entry author there by in
-      let same = the_same named.session session (sym named.entered ∙ entered) in
+      let same = same_some named.session session (sym named.entered ∙ entered) in
       named.readonly (ap (λ (s : Session). s.readonly) same ∙ only)
 
   pub authored : AuthorsNameTheirOwn code

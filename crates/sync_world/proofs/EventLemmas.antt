@@ -39,7 +39,7 @@ use Rattle.sync_world.proofs.WorldLemmas.{has_channel, sent_at, sent_set, sent_s
 use Rattle.sync_world.proofs.KeepingLemmas.{kept_still}
 use Rattle.sync_world.proofs.OutcomeLemmas.{cuts, cuts_none, shows, loses, handles, handles_nothing, sends, sends_nothing}
 use Rattle.sync_world.proofs.PartLemmas.{happened, fits_with, client_there, client_is, fits_client}
-use Rattle.sync_world.proofs.RoomPeerLemmas.{lawful_of}
+use Rattle.peer_schemas.proofs.ClientLemmas.{lawful}
 
 none_of : {X : Type 0} (o : Option X) → is_none o ≡ true → o ≡ None
 none_of None is = refl
@@ -80,7 +80,7 @@ module _ (schemas : WorldSchemas EditFault) (w : model.World) (live : Live) wher
   module _ (keeps : Keeps schemas w live) where
     -- the document in a client's base is what it has of the room's
     pub document_is : (n : ℕ) (c : Client) → slice_get w.clients n ≡ Some c → doc schemas.room (replica_of schemas w.room.history c).base ≡ base_of schemas w.room.history c
-    document_is n c at = (has_parts schemas (lawful_of schemas keeps.fits.tables) w n c keeps.reachable at).0
+    document_is n c at = (has_parts schemas (lawful schemas keeps.fits.tables) w n c keeps.reachable at).0
 
     module _ (n at : ℕ) (one : WorldClient) (same : at ≡ n) (less : at < vec_len live.clients) (is : one ≡ get_or live.clients.items at one) where
       pub cut_refused : is_none one.session ≡ true → Answers schemas w (on_cut n w) (Err NoSuchSession) live

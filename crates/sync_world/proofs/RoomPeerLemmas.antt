@@ -1,20 +1,12 @@
 -- What the room and the peers say of themselves.
 use Rattle.std.proofs.Common.{◌≡◌, Bool, cond, Some, None, sym, ap, ◌∙◌}
 use Rattle.std.specs.Prelude.{slice_get, option_and_then}
-use Rattle.room_model.specs.Schemas.{WorldSchemas, AreLawfulTogether}
 use Rattle.room_model.specs.Rooms as model
-use Rattle.side_effects.specs.declared.fault.EditFault.{EditFault}
-use Rattle.peer_schemas.specs.Clients.{AreOfTables}
 use Rattle.sync_room.specs.Sessions.{IsIn, session_of}
 use Rattle.sync_room.specs.Standing as room_of
 use Rattle.sync_room.specs.declared.room.Room.{Room}
 use Rattle.sync_room.specs.declared.session.SessionId.{SessionId}
 use Rattle.sync_room.proofs.TableLemmas.{not_left as stays}
-use Rattle.peer_schemas.proofs.ClientLemmas.{lawful}
-
--- what the tables decide is lawful
-pub lawful_of : (schemas : WorldSchemas EditFault) → AreOfTables schemas → AreLawfulTogether schemas
-lawful_of schemas tables = lawful schemas tables
 
 -- a session in a room is one of the definitions' room
 pub is_here : (state : model.Room) (room : Room) (id : SessionId) → room_of.Stands state room → IsIn id room.sessions → (s : model.Session) × (model.session_at id.number state ≡ Some s)

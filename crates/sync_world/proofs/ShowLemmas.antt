@@ -17,7 +17,7 @@ use Rattle.sync_world.specs.Holding.{held_of}
 use Rattle.sync_world.specs.Standing.{Keeps}
 use Rattle.sync_world.specs.declared.live.Live.{Live}
 use Rattle.sync_world.proofs.EventLemmas.{document_is}
-use Rattle.sync_world.proofs.RoomPeerLemmas.{lawful_of}
+use Rattle.peer_schemas.proofs.ClientLemmas.{lawful}
 
 -- a value that stands for a map is that map
 pub map_is : (x : Val) (m : Pairs) → data_of x ≡ map (members_of m) → x ≡ map_val m
@@ -30,4 +30,4 @@ module _ (schemas : WorldSchemas EditFault) (w : model.World) (live : Live) (kee
 
   -- and the same of others
   pub others_are : others_shown schemas (held_of schemas w.room.history c) ≡ others schemas w.room.history c
-  others_are = (has_parts schemas (lawful_of schemas keeps.fits.tables) w n c keeps.reachable at).1
+  others_are = (has_parts schemas (lawful schemas keeps.fits.tables) w n c keeps.reachable at).1

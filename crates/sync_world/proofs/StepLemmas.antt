@@ -23,7 +23,7 @@ use Rattle.sync_world.specs.Restoring.{IsSinceMark, marked, went_on, GoesBack, S
 use Rattle.sync_world.specs.Entries.{ClosesSince}
 use Rattle.sync_world.specs.declared.live.Live.{Live}
 use Rattle.sync_world.specs.declared.world.World.{World}
-use Rattle.sync_world.proofs.RoomPeerLemmas.{lawful_of}
+use Rattle.peer_schemas.proofs.ClientLemmas.{lawful}
 
 -- a world is spent exactly by the answer that memory ran out
 pub steps_to : (schemas : WorldSchemas EditFault) (w : model.World) (outcome : Outcome EditFault) (answer : Result (Vec OutLine) (StepFault EditFault)) (live : Live)
@@ -57,11 +57,11 @@ pub shows_again : (schemas : WorldSchemas EditFault) → AreOfTables schemas →
 shows_again schemas tables trace w number name before made after (event.Bail client other) since goes is there =
     let at = goes.2 in
     let same : event.Bail client other ≡ event.Bail number name = λ i. event.Bail (goes.0 i) (goes.1 i) in
-    bail_brings schemas trace w number name at.client after before at.diff made (ever_since schemas (lawful_of schemas tables) number name before w (since_of schemas number name before w since)) at.there at.bails at.admitted
+    bail_brings schemas trace w number name at.client after before at.diff made (ever_since schemas (lawful schemas tables) number name before w (since_of schemas number name before w since)) at.there at.bails at.admitted
     (subst (λ e. after_event schemas trace w e ≡ Ok made) same is) there
 shows_again schemas tables trace w number name before made after (event.Undo client) since goes is there =
     let at = goes.1 in
-    undo_brings schemas trace w number name at.client after before at.diff at.earlier at.first at.more made (ever_since schemas (lawful_of schemas tables) number name before w (since_of schemas number name before w since)) at.there at.last at.undoes at.admitted
+    undo_brings schemas trace w number name at.client after before at.diff at.earlier at.first at.more made (ever_since schemas (lawful schemas tables) number name before w (since_of schemas number name before w since)) at.there at.last at.undoes at.admitted
     (subst (λ e. after_event schemas trace w e ≡ Ok made) (ap (λ n. event.Undo n) goes.0) is) there
 shows_again schemas tables trace w number name before made after other since goes is there = absurd goes
 

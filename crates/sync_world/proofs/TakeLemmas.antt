@@ -3,7 +3,6 @@ use Rattle.std.proofs.Common.{◌≡◌, ℕ, ◌==◌, ℤ, pos, Bool, true, fa
 use Rattle.std.specs.Prelude.{decimal}
 use Rattle.std.specs.Option.{option_map_or, option_or}
 use Rattle.std.specs.Str.{bytes_eq}
-use Rattle.std.proofs.lemmas.Slice.Eq.{bytes_eq-Decides}
 use Rattle.std.proofs.Math.Dec.{eqb_refl}
 use Rattle.room_model.specs.Schemas.{WorldSchemas}
 use Rattle.room_model.specs.Histories.{History}
@@ -23,13 +22,11 @@ use Rattle.sync_client.specs.Faults.{clock_fault, number_fault, clock_after, eve
 use Rattle.sync_client.specs.declared.fault.TakeFault.TheVariants.{WrongRequest, NoPending, WrongPending, ClockBack}
 use Rattle.sync_world.specs.Holding.{held_of}
 use Rattle.sync_world.proofs.WorldLemmas.{base_alike}
+use Rattle.rooms_val.proofs.Truths.{bytes_eq_itself}
 
 true_of : (b : Bool) → T b → b ≡ true
 true_of true h = refl
 true_of false h = absurd h
-
-same_text : (text : List ℕ) → bytes_eq text text ≡ true
-same_text text = (bytes_eq-Decides text text).1 refl
 
 -- the result of the push that is expected has its number
 number_taken : (o : Option ℕ) (number : ℤ) → option_map pos o ≡ Some number → option_map_or (number_fault number) o (Some (NoPending number)) ≡ None
@@ -59,7 +56,7 @@ pub expected_taken : (c : Client) (k : ℕ) (said : ServerMessage) → IsExpecte
 expected_taken c k (message.Connect hydration request protocol versions diff clock readonly) h =
     ap (λ x. answer_fault x request) h.0
     ∙ ap (λ text. cond (bytes_eq text (decimal k)) None (Some WrongRequest)) h.1
-    ∙ ap (λ b. cond b None (Some WrongRequest)) (same_text (decimal k))
+    ∙ ap (λ b. cond b None (Some WrongRequest)) (bytes_eq_itself (decimal k))
 expected_taken c k (message.Data events) h = ap (λ x. open_fault x (events_fault c.pending c.reached events)) h.0 ∙ in_order c.reached c.pending events h.1
 expected_taken c k message.Pong h = ap (λ x. open_fault x None) h
 

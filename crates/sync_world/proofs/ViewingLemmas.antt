@@ -1,6 +1,6 @@
 -- What changes of the stores of clients while one of these changes.
-use Rattle.std.proofs.Common.{◌≡◌, ◌≢◌, ℕ, zero, suc, ◌<◌, List, [], ◌∷◌, length, get_or, map, slice_get, slice_set, Some, Result, Ok, Err, refl, sym, ap, subst, ◌∙◌, arith}
-use Rattle.std.specs.Prelude.{vec_len, OnOk, OnErr}
+use Rattle.std.proofs.Common.{◌≡◌, ◌≢◌, ℕ, zero, suc, ◌<◌, List, [], ◌∷◌, length, get_or, map, slice_get, slice_set, Some, refl, sym, ap, subst, ◌∙◌, arith}
+use Rattle.std.specs.Prelude.{vec_len}
 use Rattle.std.specs.Vec.{with_item}
 use Rattle.record_store.specs.Seen.{Seen, begun}
 use Rattle.room_model.specs.Schemas.{WorldSchemas}
@@ -112,12 +112,3 @@ still_stands schemas world code n one peer less value also stands =
       keeps = record { reachable = stands.keeps.reachable; fits = subst (λ w. Fits schemas w new) same set; given = stands.keeps.given };
       sound = stands.sound;
     }
-
--- what holds anyway holds of each answer
-pub holds_anyway : {A E : Type 0} (r : Result A E) (P : Type 0) → P → OnOk r P
-holds_anyway (Ok a) P p = p
-holds_anyway (Err e) P p = tt
-
-pub on_err_so : {A E : Type 0} (r : Result A E) (P Q : Type 0) → (P → Q) → OnErr r P → OnErr r Q
-on_err_so (Ok a) P Q f p = tt
-on_err_so (Err e) P Q f p = f p

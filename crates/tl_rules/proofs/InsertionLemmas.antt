@@ -6,16 +6,12 @@ use Rattle.std.specs.Cmp.{IsTotalOrder, alike_right, tied_itself}
 use Rattle.std.specs.Ordering.{is_lt, is_eq, ordering_reverse}
 use Rattle.std.specs.FinMap.Entries.{by_order}
 use Rattle.std.proofs.lemmas.Bool.{cases_Bool}
+use Rattle.rooms_val.proofs.Truths.{is_Less}
 use Rattle.rooms_val.specs.Maps.{order, AreRising, with_key, without_key}
 use Rattle.rooms_val.proofs.MapsLemmas.{same_key, rising_rest, taken_lower, taken_first_at}
 use Rattle.shape_tree.specs.Sorting.{inserted, in_order}
 use Rattle.shape_tree.specs.Index.{AreNotLess, Rises}
 use Rattle.tl_rules.specs.ListLaws.{IsTakenOut}
-
-is_Less : (w : Ordering) → is_lt w ≡ true → w ≡ Less
-is_Less Less e = refl
-is_Less Equal e = absurd (true≢false (sym e))
-is_Less Greater e = absurd (true≢false (sym e))
 
 pub each_map : {X : Type 0} {P Q : X → Type 0} → ((x : X) → P x → Q x) → (xs : List X) → AllByRecursion P xs → AllByRecursion Q xs
 each_map f [] each = tt

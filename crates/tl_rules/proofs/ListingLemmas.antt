@@ -11,6 +11,7 @@ use Rattle.std.specs.declared.cmp.Ordering.{Ordering}
 use Rattle.std.specs.declared.cmp.Ordering.TheVariants.{Less, Equal, Greater}
 use Rattle.std.proofs.lemmas.Cmp.{on_total, then_total}
 use Rattle.std.proofs.lemmas.Map.Text.{is_eq-slice_cmp}
+use Rattle.rooms_val.proofs.Truths.{both_Equal, none_some}
 use Rattle.rooms_val.specs.Data.{Data, null, Pairs}
 use Rattle.rooms_val.specs.Maps.{order, ties, AreRising, value_at, with_key, without_key}
 use Rattle.rooms_val.proofs.MapsLemmas.{first, second, less, same_key, order_itself, flipped, by_tie, at-without_key, rising-with_key, rising-without_key, rising_rest, none_later, with_key-known}
@@ -27,11 +28,6 @@ use Rattle.tl_rules.proofs.InsertionLemmas.{each_map, Cuts, in_order_same, inser
 
 pub total : IsTotalOrder sibling_order
 total = then_total (on_total (λ s. s.index) nat_list_cmp_total) (on_total (λ s. s.id) nat_list_cmp_total)
-
-both_Equal : (a b : Ordering) → ordering_then a b ≡ Equal → (a ≡ Equal) × (b ≡ Equal)
-both_Equal Less b e = (e, cc)
-both_Equal Equal b e = (refl, e)
-both_Equal Greater b e = (e, cc)
 
 pub same : (s t : Sibling) → sibling_order s t ≡ Equal → s ≡ t
 same s t e =
@@ -100,19 +96,16 @@ listed_are BoundTo m owner rising = bindings_are (codes "toId") m owner rising
 abbrev pub AreKnown : Pairs → Pairs → Type 0
 AreKnown m = AllByRecursion (λ e. value_at m e.0 ≡ Some e.1)
 
-not_None : {A : Type 0} (x : A) → None ≡ Some x → ⊥
-not_None x e = subst T (sym (ap is_some e)) tt
-
 pub known : (m : Pairs) → AreRising m → AreKnown m m
 known [] rising = tt
 known (e ∷ m) rising = (
   ap (λ w. cond (is_eq w) (Some e.1) (value_at m e.0)) (order_itself e.0),
-  each_map (λ f is. by_tie (λ b. cond b (Some e.1) (value_at m f.0) ≡ Some f.1) f.0 e.0 (λ there. absurd (not_None f.1 (sym (none_later e m rising) ∙ ap (value_at m) (sym there) ∙ is))) is)
+  each_map (λ f is. by_tie (λ b. cond b (Some e.1) (value_at m f.0) ≡ Some f.1) f.0 e.0 (λ there. absurd (none_some f.1 (sym (none_later e m rising) ∙ ap (value_at m) (sym there) ∙ is))) is)
       m (known m (rising_rest e m rising)),
 )
 
 under_none : (b : Bool) (o : Option Data) (d : Data) → cond b None o ≡ Some d → o ≡ Some d
-under_none true o d is = absurd (not_None d is)
+under_none true o d is = absurd (none_some d is)
 under_none false o d is = is
 
 pub known_without : (m : Pairs) (id : List ℕ) → AreRising m → AreKnown m (without_key m id)

@@ -12,7 +12,7 @@ use Rattle.doc_model.proofs.MarkLemmas.{diffs-inverses, undo_diff-append, after_
 use Rattle.undo_marks.specs.Inverses.{AreInverses}
 use Rattle.undo_marks.specs.Histories.{Section, IsKept, AreTaken, HasNone, IsLastNamed, NamesNone, inverses_since}
 use Rattle.undo_marks.proofs.MergeLemmas.{same_merge, merges_append}
-use Rattle.undo_marks.proofs.HistoryLemmas.{EndsIn, ends_in, ends, unmarked, no_stretch}
+use Rattle.undo_marks.proofs.HistoryLemmas.{EndsIn, ends_in, ends, unmarked, no_stretch, inverses_append}
 
 -- a history is a shorter one, of which this is kept, and marks after it
 pub record Before (ss : List Section) (last : List RecordOps) (history : List Item) (dropped : List (List ℕ)) : Type 0 where
@@ -108,10 +108,6 @@ inverses_right : (xs ys : List RecordOps) → AreInverses (xs ++ ys) → AreInve
 inverses_right [] ys each = each
 inverses_right (x ∷ xs) ys each = inverses_right xs ys each.1
 
-inverses_both : (xs ys : List RecordOps) → AreInverses xs → AreInverses ys → AreInverses (xs ++ ys)
-inverses_both [] ys each also = also
-inverses_both (x ∷ xs) ys each also = (each.0, inverses_both xs ys each.1 also)
-
 since_now : (s : Section) (older : List Section) (last : List RecordOps) (history : List Item) → AreInverses last → IsKept (s ∷ older) last history → Bails zero s.name (s ∷ older) last history
 since_now s older last history each is =
     let same : filter_map diff_in is.after ≡ is.stretch.inverses = ap (filter_map diff_in) is.stretch.are ∙ diffs-inverses is.stretch.inverses in
@@ -139,7 +135,7 @@ since_older n name s older last history is apart each also h =
       is = is.is ∙ ap (λ i. i ++ tail) h.is ∙ append_assoc h.before (mark name ∷ h.after) tail;
       last_one = any-append name h.after tail h.last_one
           (ap (λ b. b || list_any (is_named name) is.after) (differs name s.name apart) ∙ ap (list_any (is_named name)) is.stretch.are ∙ none_inverse name is.stretch.inverses);
-      inverses = subst AreInverses (sym all) (inverses_both (filter_map diff_in h.after) is.stretch.inverses h.inverses is.stretch.each);
+      inverses = subst AreInverses (sym all) (inverses_append (filter_map diff_in h.after) is.stretch.inverses h.inverses is.stretch.each);
       merges = ap merge all
           ∙ merges_append (filter_map diff_in h.after) is.stretch.inverses (inverses_since n older s.before) last h.inverses is.stretch.each each also h.merges
           (same_merge is.stretch.inverses last is.stretch.same);

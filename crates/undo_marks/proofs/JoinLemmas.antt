@@ -15,7 +15,8 @@ use Rattle.doc_model.specs.Marks.{merge_some}
 use Rattle.doc_model.proofs.PlainLemmas.{each_at}
 use Rattle.undo_marks.specs.Inverses.{diff_has_append, IsInverse, AreInverses}
 use Rattle.undo_marks.proofs.TurnLemmas.{both_itself}
-use Rattle.undo_marks.proofs.MergeLemmas.{each_plain, plain_each, plain_if, sound_if, plain_turn, at-diff_after, rising-diff_after, merge_one}
+use Rattle.undo_marks.proofs.MergeLemmas.{each_plain, plain_each, plain_if, sound_if, plain_turn, merge_one}
+use Rattle.doc_model.proofs.MergeLemmas.{at-diff_after, rising-diff_after}
 
 -- a newer inverse is joined to an older one, which is now so far, but for a rest of the newer one
 pub record Joining (rest newer older now : RecordOps) : Type 0 where

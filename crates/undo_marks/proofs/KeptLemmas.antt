@@ -162,10 +162,6 @@ unwound first now new names back u marks h some same none diff named undone is =
           ∙ ap (λ rs. record { diff = back; dropped = reverse names.items } ∷ rs) is.redos;
     })
 
-pub no_items : {X : Type 0} (xs : List X) → length xs ≡ 0 → xs ≡ []
-no_items [] none = refl
-no_items (x ∷ xs) none = absurd (omega arith)
-
 -- a redo puts marks back
 
 pub record Rewinding (first now : Marks) (names : Vec (List ℕ)) (all : List (List ℕ)) : Type 0 where

@@ -1,28 +1,21 @@
 -- Inverses that are merged in parts.
-use Rattle.std.proofs.Common.{◌≡◌, ℕ, List, [], ◌∷◌, ◌++◌, Bool, true, false, ◌||◌, cond, Some, None, refl, sym, ap, ◌∙◌}
+use Rattle.std.proofs.Common.{◌≡◌, ℕ, List, [], ◌∷◌, ◌++◌, false, ◌||◌, Some, None, refl, sym, ap, ◌∙◌}
 use Rattle.std.specs.Prelude.{unwrap_or}
+use Rattle.rooms_val.proofs.Truths.{or_false_left, or_false_right}
 use Rattle.rooms_val.specs.Maps.{value_at, AreRising, EachValue}
-use Rattle.rooms_val.proofs.MapsLemmas.{by_tie, at-set_at, same_pairs, rising-set_at}
+use Rattle.rooms_val.proofs.MapsLemmas.{same_pairs}
 use Rattle.field_ops.specs.RecordOps.{RecordOpTree, RecordOps, has_append, IsSoundChange}
 use Rattle.doc_model.specs.Merging.{both_in_turn, diff_after, merge, merged_at}
 use Rattle.doc_model.specs.Marks.{merge_some}
 use Rattle.doc_model.specs.Restoring.{IsPlain, ArePlain}
-use Rattle.doc_model.proofs.MergeLemmas.{at-merge, rising-merge}
+use Rattle.doc_model.proofs.MergeLemmas.{at-merge, rising-merge, at-diff_after, rising-diff_after}
 use Rattle.doc_model.proofs.PlainLemmas.{each_at, plain_at, plain_merged}
 use Rattle.undo_marks.specs.Inverses.{diff_has_append, IsInverse, AreInverses}
 use Rattle.undo_marks.proofs.TurnLemmas.{PlainIf, SoundIf, both_in_turn-in_turn, sound_both_in_turn}
 
-or_left : (a b : Bool) → (a || b) ≡ false → a ≡ false
-or_left true b h = h
-or_left false b h = refl
-
-or_right : (a b : Bool) → (a || b) ≡ false → b ≡ false
-or_right true b h = absurd (cc)
-or_right false b h = h
-
 pub each_plain : (diff : RecordOps) → diff_has_append diff ≡ false → EachValue (λ c. has_append c ≡ false) diff
 each_plain [] none = tt
-each_plain (c ∷ diff) none = (or_left (has_append c.1) (diff_has_append diff) none, each_plain diff (or_right (has_append c.1) (diff_has_append diff) none))
+each_plain (c ∷ diff) none = (or_false_left (has_append c.1) (diff_has_append diff) none, each_plain diff (or_false_right (has_append c.1) (diff_has_append diff) none))
 
 pub plain_each : (diff : RecordOps) → EachValue (λ c. has_append c ≡ false) diff → diff_has_append diff ≡ false
 plain_each [] each = refl
@@ -53,17 +46,6 @@ pub plain_turn : (a b : RecordOpTree) → has_append a ≡ false → has_append 
 plain_turn a b first later = plain_merged ((([], b) ∷ []) ∷ (([], a) ∷ []) ∷ []) [] ((tt, (later, tt)), ((tt, (first, tt)), tt))
 
 -- at each id
-
-pub at-diff_after : (first second : RecordOps) (q : List ℕ) → value_at (diff_after first second) q ≡ both_in_turn (value_at first q) (value_at second q)
-at-diff_after first [] q = elim (value_at first q) as (λ o. o ≡ both_in_turn o None) [ None ↦ refl | Some c ↦ refl ]
-at-diff_after first (c ∷ second) q =
-    at-set_at (diff_after first second) c.0 q (both_in_turn (value_at first c.0) (Some c.1))
-    ∙ by_tie (λ t. cond t (both_in_turn (value_at first c.0) (Some c.1)) (value_at (diff_after first second) q) ≡ both_in_turn (value_at first q) (cond t (Some c.1) (value_at second q))) q c.0
-    (λ same. ap (λ id. both_in_turn (value_at first id) (Some c.1)) (sym same)) (at-diff_after first second q)
-
-pub rising-diff_after : (first second : RecordOps) → AreRising first → AreRising (diff_after first second)
-rising-diff_after first [] rising = rising
-rising-diff_after first (c ∷ second) rising = rising-set_at (diff_after first second) c.0 (both_in_turn (value_at first c.0) (Some c.1)) (rising-diff_after first second rising)
 
 at-append : (older newer : List RecordOps) (q : List ℕ) → AreInverses older → AreInverses newer → merged_at (older ++ newer) q ≡ both_in_turn (merged_at newer q) (merged_at older q)
 at-append [] newer q olds news = elim (merged_at newer q) as (λ o. o ≡ both_in_turn o None) [ None ↦ refl | Some c ↦ refl ]

@@ -1,5 +1,5 @@
 -- To do operations in turn doesn't depend on which two are made one first, and an operation done twice is done once.
-use Rattle.std.proofs.Common.{◌≡◌, ℕ, List, [], ◌∷◌, Bool, true, false, ◌||◌, cond, Option, Some, None, refl, sym, ap, subst, ◌∙◌}
+use Rattle.std.proofs.Common.{◌≡◌, ℕ, List, [], ◌∷◌, true, false, ◌||◌, cond, Option, Some, None, refl, sym, ap, subst, ◌∙◌}
 use Rattle.std.specs.Prelude.{option_map, unwrap_or}
 use Rattle.std.proofs.lemmas.Option.{same_Some}
 use Rattle.rooms_val.specs.Data.{Data, IsSound}
@@ -11,27 +11,12 @@ use Rattle.field_ops.specs.RecordOps as change
 use Rattle.field_ops.specs.RecordOps.{RecordOpTree, RecordOps, has_append, IsSoundChange}
 use Rattle.field_ops.specs.Patched.{patched}
 use Rattle.field_ops.specs.Compose.{after, both, edit_after, in_turn}
-use Rattle.field_ops.proofs.ComposeLemmas.{every, does_both, sound_raw}
+use Rattle.field_ops.proofs.ComposeLemmas.{every, does_both, sound_raw, plain_at}
 use Rattle.field_ops.proofs.PatchedLemmas.{at-both, rising-both}
 use Rattle.field_ops.proofs.WireLemmas.{edits_of-patch_of}
 use Rattle.field_ops.specs.WireRecordOps.{patch_of-edits_of}
 use Rattle.field_ops.proofs.SoundLemmas.{sound_put}
 use Rattle.doc_model.specs.Merging.{both_in_turn}
-
-or_left : (a b : Bool) → (a || b) ≡ false → a ≡ false
-or_left true b h = h
-or_left false b h = refl
-
-or_right : (a b : Bool) → (a || b) ≡ false → b ≡ false
-or_right true b h = absurd (cc)
-or_right false b h = h
-
-plain_at : (p : Patch) (k : List ℕ) (e : ValueOpTree) → edits_have_append (edits_of p) ≡ false → value_at p k ≡ Some e → edit_has_append e ≡ false
-plain_at [] k e plain is = absurd (cc)
-plain_at (d ∷ p) k e plain is = elim (ties k d.0) as (λ b. cond b (Some d.1) (value_at p k) ≡ Some e → edit_has_append e ≡ false) [
-  | true ↦ λ same. subst (λ x. edit_has_append x ≡ false) (same_Some _ _ same) (or_left (edit_has_append d.1) (edits_have_append (edits_of p)) plain)
-  | false ↦ λ later. plain_at p k e (or_right (edit_has_append d.1) (edits_have_append (edits_of p)) plain) later
-] is
 
 sound_at : (p : Patch) (k : List ℕ) (e : ValueOpTree) → AreSoundEdits (edits_of p) → value_at p k ≡ Some e → IsSoundEdit e
 sound_at [] k e sound is = absurd (cc)

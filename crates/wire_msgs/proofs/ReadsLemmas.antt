@@ -1,5 +1,6 @@
 -- A text that stands for a message is read as it.
 use Rattle.std.proofs.Common.{◌≡◌, ℕ, List, Some, None, Result, Ok, Err, IfOk, IfErr, MatchResult, refl, sym, ap, ◌∙◌, option_and_then}
+use Rattle.rooms_val.proofs.Truths.{one_ok, ok_not_err}
 use Rattle.rooms_val.specs.Data.{Data}
 use Rattle.rooms_val.specs.Kinds.{as_map}
 use Rattle.rooms_val.proofs.DataLemmas.{pairs_of-members_of}
@@ -14,12 +15,6 @@ use Rattle.wire_msgs.specs.declared.fault.MsgFault.TheVariants as fault
 use Rattle.wire_msgs.proofs.ClientLemmas as clients
 use Rattle.wire_msgs.proofs.OneEachLemmas.{one_client, one_server}
 use Rattle.wire_msgs.proofs.ServerLemmas as servers
-
-pub ok_same : {T E : Type 0} (r : Result T E) (x y : T) → r ≡ Ok x → r ≡ Ok y → x ≡ y
-ok_same r x y is_x is_y = let is : Ok x ≡ Ok y = sym is_x ∙ is_y in cc
-
-pub no_ok : {T E : Type 0} {A : Type 0} (r : Result T E) (x : T) (e : E) → r ≡ Ok x → r ≡ Err e → A
-no_ok r x e is_ok is_err = absurd (let is : Ok x ≡ Err e = sym is_ok ∙ is_err in cc)
 
 -- the value of a message has no fault in its keys
 no_client_fault : (d : Data) (m : ClientMessage) (f : MsgFault) → d ≡ client_val m → ¬ IsOfClientType d (Some f)
@@ -38,22 +33,22 @@ no_server_fault d m f is at =
 
 pub reads_client : (bytes : List ℕ) (r : Result ClientMessage MsgFault) → IfOk r (IsClient bytes) → IfErr r (RefusesClient bytes)
     → (m : ClientMessage) → IsClient bytes m → MatchResult r (λ x. x ≡ m) (λ f. f ≡ fault.OutOfMemory)
-reads_client bytes (Ok x) found refused m is = one_client x m (ok_same _ _ _ found.0 is.0)
-reads_client bytes (Err (fault.Val f)) found refused m is = no_ok _ _ _ is.0 refused
+reads_client bytes (Ok x) found refused m is = one_client x m (one_ok _ _ _ found.0 is.0)
+reads_client bytes (Err (fault.Val f)) found refused m is = ok_not_err _ _ _ is.0 refused
 reads_client bytes (Err fault.UnknownType) found refused m is =
-    absurd (refused.2 (clients.type_of m) (ap type_in (ok_same _ _ _ refused.1 is.0) ∙ clients.says m))
-reads_client bytes (Err fault.MissingField) found refused m is = absurd (no_client_fault refused.0 m _ (ok_same _ _ _ refused.1 is.0) refused.2)
-reads_client bytes (Err fault.ExtraField) found refused m is = absurd (no_client_fault refused.0 m _ (ok_same _ _ _ refused.1 is.0) refused.2)
-reads_client bytes (Err fault.WrongKind) found refused m is = absurd (refused.2.1 m is.1 (ok_same _ _ _ refused.1 is.0))
+    absurd (refused.2 (clients.type_of m) (ap type_in (one_ok _ _ _ refused.1 is.0) ∙ clients.says m))
+reads_client bytes (Err fault.MissingField) found refused m is = absurd (no_client_fault refused.0 m _ (one_ok _ _ _ refused.1 is.0) refused.2)
+reads_client bytes (Err fault.ExtraField) found refused m is = absurd (no_client_fault refused.0 m _ (one_ok _ _ _ refused.1 is.0) refused.2)
+reads_client bytes (Err fault.WrongKind) found refused m is = absurd (refused.2.1 m is.1 (one_ok _ _ _ refused.1 is.0))
 reads_client bytes (Err fault.OutOfMemory) found refused m is = refl
 
 pub reads_server : (bytes : List ℕ) (r : Result ServerMessage MsgFault) → IfOk r (IsServer bytes) → IfErr r (RefusesServer bytes)
     → (m : ServerMessage) → IsServer bytes m → MatchResult r (λ x. x ≡ m) (λ f. f ≡ fault.OutOfMemory)
-reads_server bytes (Ok x) found refused m is = one_server x m (ok_same _ _ _ found.0 is.0)
-reads_server bytes (Err (fault.Val f)) found refused m is = no_ok _ _ _ is.0 refused
+reads_server bytes (Ok x) found refused m is = one_server x m (one_ok _ _ _ found.0 is.0)
+reads_server bytes (Err (fault.Val f)) found refused m is = ok_not_err _ _ _ is.0 refused
 reads_server bytes (Err fault.UnknownType) found refused m is =
-    absurd (refused.2 (servers.type_of m) (ap type_in (ok_same _ _ _ refused.1 is.0) ∙ servers.says m))
-reads_server bytes (Err fault.MissingField) found refused m is = absurd (no_server_fault refused.0 m _ (ok_same _ _ _ refused.1 is.0) refused.2)
-reads_server bytes (Err fault.ExtraField) found refused m is = absurd (no_server_fault refused.0 m _ (ok_same _ _ _ refused.1 is.0) refused.2)
-reads_server bytes (Err fault.WrongKind) found refused m is = absurd (refused.2.1 m is.1 (ok_same _ _ _ refused.1 is.0))
+    absurd (refused.2 (servers.type_of m) (ap type_in (one_ok _ _ _ refused.1 is.0) ∙ servers.says m))
+reads_server bytes (Err fault.MissingField) found refused m is = absurd (no_server_fault refused.0 m _ (one_ok _ _ _ refused.1 is.0) refused.2)
+reads_server bytes (Err fault.ExtraField) found refused m is = absurd (no_server_fault refused.0 m _ (one_ok _ _ _ refused.1 is.0) refused.2)
+reads_server bytes (Err fault.WrongKind) found refused m is = absurd (refused.2.1 m is.1 (one_ok _ _ _ refused.1 is.0))
 reads_server bytes (Err fault.OutOfMemory) found refused m is = refl

@@ -4,11 +4,6 @@ use Rattle.rooms_val.specs.declared.fault.OpFault.{OpFault}
 use Rattle.rooms_val.specs.declared.fault.OpFault.TheVariants.{WrongKind, OutOfMemory}
 use Rattle.wire_msgs.specs.Rows.{Refuses}
 
--- a fact holds of every error
-pub any_err : {T E P : Type 0} (r : Result T E) → P → IfErr r (λ _. P)
-any_err (Ok x) p = tt
-any_err (Err e) p = p
-
 for_cause : {P : Type 0} (e : OpFault) → P → Refuses P e
 for_cause WrongKind p = p
 for_cause OutOfMemory p = tt

@@ -13,7 +13,8 @@ use Rattle.room_model.specs.Closing as closing
 use Rattle.room_model.specs.Rooms.{Session, Room}
 use Rattle.room_model.specs.Replicas.{Work, edit, presence, diff_in, push_of}
 use Rattle.room_model.proofs.AcceptLemmas.{is_commit}
-use Rattle.room_model.proofs.ActingLemmas.{left, filter_all, filter-with_key, presence_apart, fit_documents}
+use Rattle.room_model.proofs.ActingLemmas.{filter_all, filter-with_key, presence_apart, fit_documents}
+use Rattle.rooms_val.proofs.Truths.{and_left}
 use Rattle.room_model.proofs.CallLemmas.{member_of, pushed_by}
 use Rattle.sync_msgs.specs.declared.client_message.ClientMessage.{ClientMessage}
 use Rattle.sync_msgs.specs.declared.data_event.Action.TheVariants.{Commit}
@@ -45,7 +46,7 @@ module _ (schemas : Schemas) (lawful : AreLawful schemas) where
             let empty : part ≡ [] = ap (document_part schemas member m) none ∙ elim s.readonly as (λ b. cond b [] (accept_ops schemas plan m []) ≡ []) [ true ↦ refl | false ↦ refl ] in
             whole (empty ∙ sym none) (ap (list_all (λ c. schemas.is_document c.0)) none)
         | inr all ↦
-            let fit : is_fit schemas plan push.diff ≡ true = sym (ap (λ b. b || is_fit schemas plan push.diff) all.0) ∙ left _ _ taken in
+            let fit : is_fit schemas plan push.diff ≡ true = sym (ap (λ b. b || is_fit schemas plan push.diff) all.0) ∙ and_left _ _ taken in
             whole (ap (λ b. cond b [] (accept_ops schemas plan m push.diff)) all.0 ∙ all.2) (fit_documents schemas plan push.diff fit)
       ]
 

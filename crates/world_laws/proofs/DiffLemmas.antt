@@ -1,6 +1,7 @@
 -- The diffs of what is pending, in flight and to be done again rise; so the room of a world that can be reached is one that calls make.
-use Rattle.std.proofs.Common.{◌≡◌, ℕ, zero, suc, Bool, true, false, ◌||◌, cond, List, [], ◌∷◌, ◌++◌, length, map, drop, filter_map, Option, Some, None, refl, sym, ap, subst}
+use Rattle.std.proofs.Common.{◌≡◌, ℕ, zero, suc, Bool, false, ◌||◌, cond, List, [], ◌∷◌, ◌++◌, length, map, drop, filter_map, Option, Some, None, sym, ap, subst}
 use Rattle.std.specs.Prelude.{option_to_list}
+use Rattle.rooms_val.proofs.Truths.{or_false_left}
 use Rattle.rooms_val.specs.Data.{Data}
 use Rattle.room_model.specs.Schemas.{Schemas, WorldSchemas, AreLawfulTogether}
 use Rattle.room_model.specs.Histories.{History}
@@ -83,10 +84,6 @@ notice_rises history k c (end reason) h = record { client = end_rises reason c h
 quiet_rises : (c d : Client) → Quiet c d → IsRisingClient c → IsRisingClient d
 quiet_rises c d q h = record { items = subst AreRisingItems (sym q.pending) h.items; redos = q.redos h.redos }
 
-or_first : (a b : Bool) → a || b ≡ false → a ≡ false
-or_first true b is = absurd (cc)
-or_first false b is = refl
-
 module _ {F : Type 0} (schemas : WorldSchemas F) (lawful : AreLawfulTogether schemas) where
   work_rises : (c d : Client) (work : Work) → Quiet c d → IsRisingWork work → IsRisingClient c → IsRisingClient (with_work work d)
   work_rises c d work q rising h =
@@ -116,7 +113,7 @@ module _ {F : Type 0} (schemas : WorldSchemas F) (lawful : AreLawfulTogether sch
     cuts = λ w n k c made at is h. record { room = h.room; clients = each_set IsRisingClient w.clients n (after_cut c) h.clients (cut_rises c (h.clients n c at)); channels = h.channels };
     acts = λ w n c p made at acts h. pushing_rises w n p (act_rises c p acts (h.clients n c at)) h;
     asks = λ w n readonly c made at off place h. record {
-      room = entered readonly w.room _ h.room (entering readonly w.room (or_first _ _ place));
+      room = entered readonly w.room _ h.room (entering readonly w.room (or_false_left _ _ place));
       clients = each_set IsRisingClient w.clients n _ h.clients (record { items = (h.clients n c at).items; redos = (h.clients n c at).redos });
       channels = each_added (λ channel. Each IsRising channel.to_room) w.channels _ h.channels (tt, tt);
     };

@@ -9,6 +9,7 @@ use Rattle.std.proofs.lemmas.Bool.Decides.{nat_tests}
 use Rattle.std.proofs.lemmas.Option.{slice_get_within}
 use Rattle.std.proofs.lemmas.Slice.Eq.{bytes_eq-Decides}
 use Rattle.std.proofs.Math.Seq.{drop-append_seam}
+use Rattle.rooms_val.proofs.Truths.{or_false_right, and_left, and_right}
 use Rattle.rooms_val.specs.Data.{Pairs}
 use Rattle.rooms_val.specs.Maps.{value_at, ties}
 use Rattle.rooms_val.proofs.MapsLemmas.{at-set_at, ties_same}
@@ -26,7 +27,7 @@ use Rattle.room_model.specs.declared.handled.Handled.TheVariants.{Taken, Entered
 use Rattle.room_model.specs.declared.history.Entry.{Entry}
 use Rattle.room_model.specs.declared.limits.TheConstants.{MOST_ENTERED}
 use Rattle.room_model.proofs.BegunLemmas.{nobody_there, nobody_present}
-use Rattle.room_model.proofs.ActingLemmas.{left as left_of, right as right_of, differ, presence_apart, all-imp}
+use Rattle.room_model.proofs.ActingLemmas.{differ, presence_apart, all-imp}
 use Rattle.room_model.proofs.ClosingLemmas.{set_at_place, set_elsewhere, by_number, message_appends, leave_closes}
 use Rattle.room_model.proofs.EntryLemmas.{reachable_names}
 use Rattle.sync_msgs.specs.declared.client_message.ClientMessage.{ClientMessage}
@@ -36,10 +37,6 @@ use Rattle.world_laws.proofs.RoomLemmas.{message_receives, Gives, tells_end, ans
 use Rattle.world_laws.proofs.PushLemmas.{long-set, long-added}
 use Rattle.world_laws.proofs.SessionLemmas.{message_long, leave_long}
 use Rattle.world_laws.proofs.TurnLemmas.{IsLast, untold, left as is_gone, leave_turns, message_turns}
-
-pub or_second : (a b : Bool) → a || b ≡ false → b ≡ false
-or_second true b is = absurd (cc)
-or_second false b is = is
 
 -- the ids of the presences of two sessions differ
 
@@ -66,7 +63,7 @@ below k is = grind (arith, nat_tests)
 entered_few : (readonly : Bool) (room after : Room) → enter readonly room ≡ Some after → length after.sessions ≤ MOST_ENTERED
 entered_few readonly room after is =
     let on = entered_is readonly room after is in
-    let few = below (length room.sessions) (or_second _ _ on.0) in
+    let few = below (length room.sessions) (or_false_right _ _ on.0) in
     subst (λ (r : Room). length r.sessions ≤ MOST_ENTERED) on.1 (subst (λ k. k ≤ MOST_ENTERED) (sym (long-added room.sessions _)) few)
 
 few_entered : (schemas : Schemas) (room : Room) → Reachable schemas room → length room.sessions ≤ MOST_ENTERED
@@ -148,8 +145,8 @@ module _ (first : History) where
   removals_added : (before after : Room) (ks : List ℕ) (history : History) → list_all (λ k. was_open before k && is_closed after k) ks ≡ true → Upon first after history → Upon first after (with_removals ks history)
   removals_added before after [] history all h = h
   removals_added before after (k ∷ ks) history all h =
-      removals_added before after ks (removal k ∷ history) (right_of _ _ all)
-      (removal k ∷ h.0, ap (λ l. removal k ∷ l) h.1, (λ none. (k, refl, right_of _ _ (left_of _ _ all)), h.2))
+      removals_added before after ks (removal k ∷ history) (and_right _ _ all)
+      (removal k ∷ h.0, ap (λ l. removal k ∷ l) h.1, (λ none. (k, refl, and_right _ _ (and_left _ _ all)), h.2))
 
   closing_removals : (before after : Room) (ks : List ℕ) → IsClosing before after ks → Upon first after before.history → Upon first after after.history
   closing_removals before after ks closing h = subst (Upon first after) (sym closing.appended) (removals_added before after ks before.history closing.ends h)
@@ -268,8 +265,8 @@ closing_lives k before after ks closing lives on present =
 untouched : (id : List ℕ) (diff : RecordOps) (m : Pairs) → list_all (λ c. not (ties id c.0)) diff ≡ true → value_at (fold_raw m diff) id ≡ value_at m id
 untouched id [] m all = refl
 untouched id (c ∷ diff) m all =
-    untouched id diff _ (right_of _ _ all) ∙ at-set_at m c.0 id (raw c.1 (value_at m c.0))
-    ∙ elim (ties id c.0) as (λ b. not b ≡ true → cond b (raw c.1 (value_at m c.0)) (value_at m id) ≡ value_at m id) [ true ↦ λ no. absurd (differ (sym no)) | false ↦ λ no. refl ] (left_of _ _ all)
+    untouched id diff _ (and_right _ _ all) ∙ at-set_at m c.0 id (raw c.1 (value_at m c.0))
+    ∙ elim (ties id c.0) as (λ b. not b ≡ true → cond b (raw c.1 (value_at m c.0)) (value_at m id) ≡ value_at m id) [ true ↦ λ no. absurd (differ (sym no)) | false ↦ λ no. refl ] (and_left _ _ all)
 
 -- numbers of sessions that differ have presences with ids that differ
 apart_ids : (n k : ℕ) → n < 2 ^ 64 → k < 2 ^ 64 → (k ≡ n → ⊥) → ties (presence_id k) (presence_id n) ≡ false
@@ -401,10 +398,10 @@ module _ (schemas : Schemas) (lawful : AreLawful schemas) where
   removals_untouched before after k [] history few less stays all = refl
   removals_untouched before after k (j ∷ ks) history few less stays all =
       let m = records_of history in
-      let this = left_of _ _ all in
-      let entered = entered_open j before (left_of _ _ this) in
-      let apart : k ≡ j → ⊥ = λ same. not_open k after stays (ap (is_closed after) same ∙ right_of _ _ this) in
-      removals_untouched before after k ks (removal j ∷ history) few less stays (right_of _ _ all) ∙ at-set_at m (presence_id j) (presence_id k) None
+      let this = and_left _ _ all in
+      let entered = entered_open j before (and_left _ _ this) in
+      let apart : k ≡ j → ⊥ = λ same. not_open k after stays (ap (is_closed after) same ∙ and_right _ _ this) in
+      removals_untouched before after k ks (removal j ∷ history) few less stays (and_right _ _ all) ∙ at-set_at m (presence_id j) (presence_id k) None
       ∙ ap (λ b. cond b None (value_at m (presence_id k))) (apart_ids j k (omega arith) less apart)
 
   closing_untouched : (before after : Room) (k : ℕ) (ks : List ℕ) → length before.sessions ≤ MOST_ENTERED → k < 2 ^ 64 → was_open after k ≡ true → IsClosing before after ks → HasSamePresence k before after

@@ -11,7 +11,7 @@ use Rattle.room_model.specs.declared.handled.Handled.{Handled}
 use Rattle.room_model.specs.declared.handled.Handled.TheVariants.{Taken, Entered, Pong, Ended}
 use Rattle.room_model.specs.declared.history.Entry.{Entry}
 use Rattle.room_model.specs.Replicas.{after_notice}
-use Rattle.room_model.proofs.ActingLemmas.{left as left_of, right as right_of}
+use Rattle.rooms_val.proofs.Truths.{and_left, and_right}
 use Rattle.room_model.proofs.ClosingLemmas.{message_appends, leave_closes}
 use Rattle.sync_msgs.specs.declared.client_message.ClientMessage.{ClientMessage}
 use Rattle.world_laws.specs.Presences.{AreOfClosed, GoesOnByClosing}
@@ -52,10 +52,10 @@ module _ (before : Room) where
   removals_close r after still [] fresh all h = h
   removals_close r after still (k ∷ ks) fresh all h =
       let closes : ℕ → Bool = λ j. was_open r j && is_closed after j in
-      let this : closes k ≡ true = left_of (closes k) (list_all closes ks) all in
-      let was : is_closed before k ≡ false = was_not k r still (left_of (was_open r k) (is_closed after k) this) in
-      let now : is_closed after k ≡ true = right_of (was_open r k) (is_closed after k) this in
-      removals_close r after still ks (removal k ∷ fresh) (right_of (closes k) (list_all closes ks) all) ((λ none. (k, refl, was, now)), h)
+      let this : closes k ≡ true = and_left (closes k) (list_all closes ks) all in
+      let was : is_closed before k ≡ false = was_not k r still (and_left (was_open r k) (is_closed after k) this) in
+      let now : is_closed after k ≡ true = and_right (was_open r k) (is_closed after k) this in
+      removals_close r after still ks (removal k ∷ fresh) (and_right (closes k) (list_all closes ks) all) ((λ none. (k, refl, was, now)), h)
 
   -- sessions were closed, and their removals stand on top
   closing_moves : (r after : Room) → StayClosed before r → StayClosed r after → (ks : List ℕ) (fresh history : History) → history ≡ fresh ++ before.history

@@ -1,5 +1,5 @@
 -- What a message, a leave and a drain do to a room, case by case; no session enters by them.
-use Rattle.std.proofs.Common.{◌≡◌, ℕ, suc, ◌-◌, ◌<◌, nat_lt, nat_le, Bool, true, false, ◌||◌, cond, List, ◌∷◌, length, slice_get, Option, Some, None, option_map, Ok, Err, Result, refl, sym, ap, subst, ◌∙◌, arith}
+use Rattle.std.proofs.Common.{◌≡◌, ℕ, suc, ◌-◌, ◌<◌, nat_lt, nat_le, Bool, true, false, ◌||◌, cond, List, ◌∷◌, length, slice_get, Option, Some, None, Ok, Err, Result, refl, sym, ap, subst, ◌∙◌, arith}
 use Rattle.std.specs.Option.{option_map_or}
 use Rattle.std.proofs.lemmas.Bool.Decides.{nat_tests}
 use Rattle.room_model.specs.Schemas.{Schemas, Plan}
@@ -15,6 +15,7 @@ use Rattle.sync_msgs.specs.declared.client_message.ClientMessage.TheVariants as 
 use Rattle.sync_msgs.specs.declared.end_reason.EndReason.{EndReason}
 use Rattle.sync_msgs.specs.declared.end_reason.EndReason.TheVariants.{RoomFull, InvalidRecord}
 use Rattle.room_model.specs.declared.handled.Handled.TheVariants.{Taken}
+use Rattle.rooms_val.proofs.Truths.{neither, mapped}
 
 -- the session of a number is there, and hasn't left
 pub record IsThere (room : Room) (n : ℕ) (s : Session) : Type 0 where
@@ -85,11 +86,6 @@ module _ (schemas : Schemas) (room : Room) (n : ℕ) (s : Session) where
   received_in said (ended reason told) is here = ignores (ap is_over is)
   received_in said gone is here = absurd (let h : true ≡ false = sym (ap has_left is) ∙ here in cc)
 
--- what an option of a call says
-mapped : {X Y : Type 0} (f : X → Y) (o : Option X) (y : Y) → option_map f o ≡ Some y → (x : X) × (o ≡ Some x) × (f x ≡ y)
-mapped f None y is = absurd (cc)
-mapped f (Some x) y is = let same : f x ≡ y = cc in (x, refl, same)
-
 pub message_receives : (schemas : Schemas) (room : Room) (n : ℕ) (said : ClientMessage) (replied : Replied) → after_message schemas room n said ≡ Some replied
     → (s : Session) × IsThere room n s × Receives schemas room n s said replied.room
 message_receives schemas room n said replied is =
@@ -102,15 +98,11 @@ pub data Leaves (room : Room) (n : ℕ) (s : Session) : Room → Type 0 where
   leaves_ended : is_over s.phase ≡ true → Leaves room n s (with_session n (record s { phase = gone }) room)
   leaves_open : is_over s.phase ≡ false → Leaves room n s (after_close n s gone room)
 
-not_either : (a b : Bool) → a ≡ false → b ≡ false → a || b ≡ false
-not_either true b p q = absurd (cc)
-not_either false b p q = q
-
 left_in : (room : Room) (n : ℕ) (s : Session) → has_left s.phase ≡ false → Leaves room n s (leave n s room)
 left_in room n s here =
     elim (is_ended s.phase) as (λ b. is_ended s.phase ≡ b → Leaves room n s (cond b (with_session n (record s { phase = gone }) room) (after_close n s gone room))) [
       | true ↦ λ is. leaves_ended (ap (λ b. b || has_left s.phase) is)
-      | false ↦ λ is. leaves_open (not_either (is_ended s.phase) (has_left s.phase) is here)
+      | false ↦ λ is. leaves_open (neither (is_ended s.phase) (has_left s.phase) is here)
     ] refl
 
 pub leave_leaves : (room : Room) (n : ℕ) (after : Room) → after_leave room n ≡ Some after → (s : Session) × IsThere room n s × Leaves room n s after

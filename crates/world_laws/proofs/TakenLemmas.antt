@@ -13,7 +13,8 @@ use Rattle.room_model.specs.Replicas.{Client, is_open, session_of, after_end, af
 use Rattle.room_model.specs.Worlds.{Channel, World, with_channel}
 use Rattle.room_model.specs.declared.connection.Connection.{Connection}
 use Rattle.room_model.specs.declared.connection.Connection.TheVariants.{Off, Asking, Open}
-use Rattle.room_model.proofs.ActingLemmas.{differ, or_right as or_true}
+use Rattle.room_model.proofs.ActingLemmas.{differ}
+use Rattle.rooms_val.proofs.Truths.{or_right}
 use Rattle.room_model.proofs.AnswerLemmas.{answered_before}
 use Rattle.room_model.proofs.BaseLemmas.{rising-records, wiped_all, hydrated, whole_document, whole_presence}
 use Rattle.room_model.proofs.EntryLemmas.{reachable_acts}
@@ -175,7 +176,7 @@ module _ {F : Type 0} (schemas : WorldSchemas F) where
       after_hydration admits schemas.room.is_document base (hydration known) (snapshot_diff schemas.room member known h) ≡ whole_for schemas.room member.plan member.session (records_of h)) [
         | true ↦ λ above.
             let unknown : known_clock (pos r) start (length h) ≡ None =
-            ap (λ b. cond b None (Some r)) (or_true (nat_lt r start) (nat_lt (length h) r) (ap (λ n. nat_lt n r) (short clock history less) ∙ above)) in
+            ap (λ b. cond b None (Some r)) (or_right (nat_lt r start) (nat_lt (length h) r) (ap (λ n. nat_lt n r) (short clock history less) ∙ above)) in
             subst (λ known. after_hydration admits schemas.room.is_document base (hydration known) (snapshot_diff schemas.room member known h) ≡ whole_for schemas.room member.plan member.session (records_of h))
             (sym unknown) (wiped_all schemas.room admits member h base)
         | false ↦ λ within.

@@ -13,18 +13,12 @@ use Rattle.sync_msgs.specs.declared.client_message.ClientMessage.{ClientMessage}
 use Rattle.sync_msgs.specs.declared.client_message.ClientMessage.TheVariants as message
 use Rattle.sync_msgs.specs.declared.end_reason.EndReason.TheVariants.{Slow}
 use Rattle.world_laws.proofs.RoomLemmas.{ignores, asks_now, pings, refuses, takes, message_receives, leaves_ended, leaves_open, leave_leaves}
+use Rattle.room_model.proofs.ClosingLemmas.{live_open}
 
 -- a last phase into which a session comes: it is ended and not told so, or has left
 pub data IsLast : Phase → Type 0 where
   untold : (reason : _) → IsLast (ended reason false)
   left : IsLast gone
-
-live_open : (phase : Phase) → is_live phase ≡ true → is_over phase ≡ false
-live_open new is = absurd (cc)
-live_open (asked request reached plan) is = refl
-live_open (live sent plan) is = refl
-live_open (ended reason told) is = absurd (cc)
-live_open gone is = absurd (cc)
 
 -- who is closed by what happens to a session: itself, or a live one that is too slow
 module _ (P : Room → Type 0) (own : ℕ)

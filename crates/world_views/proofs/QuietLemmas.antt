@@ -1,9 +1,9 @@
 -- Who has nothing to tell tells nothing, and once all was told nobody has.
-use Rattle.std.proofs.Common.{◌≡◌, ℕ, ◌+◌, List, [], ◌∷◌, ◌++◌, length, Bool, true, false, Option, Some, None, map, is_eq, Equal, refl, sym, ap, subst, ◌∙◌, slice_get}
+use Rattle.std.proofs.Common.{◌≡◌, ℕ, ◌+◌, List, [], ◌∷◌, ◌++◌, length, Bool, true, false, Option, Some, None, map, is_eq, refl, sym, ap, subst, ◌∙◌, slice_get}
 use Rattle.std.specs.Prelude.{if◌then◌else◌}
 use Rattle.std.specs.Cmp.{tied_itself}
-use Rattle.std.specs.declared.cmp.Ordering.{Ordering}
 use Rattle.std.specs.Option.{option_map_or}
+use Rattle.rooms_val.proofs.Truths.{is_Equal}
 use Rattle.rooms_val.specs.Data.{Data, Pairs}
 use Rattle.rooms_val.specs.Order.{data_cmp}
 use Rattle.rooms_val.specs.OrderLaws.{same_data, data_total}
@@ -12,17 +12,13 @@ use Rattle.shape_tree.specs.Views.{told}
 use Rattle.live_views.specs.Watches.{Watched, told_now, is_told, news_of, news_from}
 use Rattle.world_views.specs.Views.{told_lines, clients_told, told_line}
 
-is_equal : (o : Ordering) → is_eq o ≡ true → o ≡ Equal
-is_equal Equal is = refl
-is_equal o is = cc
-
 -- what was told last stays so where it is told again
 told_again : (m : Pairs) (w : Watched) → is_told m w ≡ true → told_now m w ≡ w
 told_again m w is =
     elim w.told as (λ o. option_map_or (λ d. is_same d (told m w.view)) o false ≡ true → w.told ≡ o → told_now m w ≡ w) [
       | None ↦ λ test at. absurd (let no : false ≡ true = test in cc)
       | Some d ↦ λ test at.
-          let same = same_data d (told m w.view) (is_equal (data_cmp d (told m w.view)) test) in
+          let same = same_data d (told m w.view) (is_Equal (data_cmp d (told m w.view)) test) in
           let last : Some (told m w.view) ≡ w.told = ap (λ e. Some e) (sym same) ∙ sym at in
           λ i. record w { told = last i }
     ] is refl

@@ -3,7 +3,8 @@ use Rattle.std.proofs.lemmas.Int.{to_z-of_z}
 use Rattle.std.proofs.lemmas.List.{get_or_read}
 use Rattle.change_list.specs.Changes.{blank, is_after}
 use Rattle.change_list.specs.Kept.{entry_at}
-use Rattle.change_list.proofs.Steps.{gathering_init, gathering_step, gathering_here, gathering_ticks, gathering_stop, gathering_end, on_err}
+use Rattle.change_list.proofs.Steps.{gathering_init, gathering_step, gathering_here, gathering_ticks, gathering_stop, gathering_end}
+use Rattle.rooms_val.proofs.Truths.{on_err_anyway}
 use Rattle.change_list.proofs.gather.gather.Goals as goal
 
 pub back-init : goal.back-init
@@ -38,7 +39,7 @@ returns-then-not-late-clause-ticked g c =
 
 pub returns-in_err-push-clause-untold : goal.returns-in_err-push-clause-untold
 returns-in_err-push-clause-untold g c =
-    on_err _ (gathering_ticks _ _ _ _ _ _ _ _ (rw (to_z-of_z w64 c.args.clock c.ranges.clock) at c.back.invariant))
+    on_err_anyway _ (gathering_ticks _ _ _ _ _ _ _ _ (rw (to_z-of_z w64 c.args.clock c.ranges.clock) at c.back.invariant))
 
 pub back-preserved : goal.back-preserved
 back-preserved g c =

@@ -8,9 +8,10 @@ use Rattle.schema_core.specs.SchemaOf.{schema_tree}
 use Rattle.doc_model.specs.Documents.{replay}
 use Rattle.client_replica.specs.Works.{work_of, diffs_in, operations}
 use Rattle.client_replica.specs.Stashes.{under, is_named}
-use Rattle.client_replica.proofs.StashLemmas.{or_assoc, or_flip}
+use Rattle.client_replica.proofs.StashLemmas.{or_flip}
 use Rattle.client_replica.proofs.WorkLemmas.{replay-first, ops-first, named-first}
 use Rattle.client_replica.proofs.replay.replay.Goals as goal
+use Rattle.room_model.proofs.LookUpLemmas.{or_assoc}
 
 pub works-init : goal.works-init
 works-init g c = record {

@@ -1,10 +1,11 @@
 use Rattle.link_texts.specs.Faults.{fault_of_piece}
 use Rattle.link_texts.specs.Hearing.{Refuses, IfRefused}
-use Rattle.link_texts.proofs.HearingLemmas.{refused_as, refuses_taken}
+use Rattle.link_texts.proofs.HearingLemmas.{refuses_taken}
+use Rattle.rooms_val.proofs.Truths.{err_as}
 use Rattle.link_texts.proofs.hearing.hear.Goals as goal
 
 pub returns-in_err-taken-clause-refused : goal.returns-in_err-taken-clause-refused
 returns-in_err-taken-clause-refused c =
     let fault = c.in_err-taken.field-0.0 in
-    refused_as (IfRefused (Refuses c.args.assembler.now c.args.bytes.now)) c.from_residual.result (fault_of_piece fault) c.from_residual.ensures.1
+    err_as (IfRefused (Refuses c.args.assembler.now c.args.bytes.now)) c.from_residual.result (fault_of_piece fault) c.from_residual.ensures.1
     (refuses_taken c.args.assembler.now c.args.bytes.now fault c.in_err-taken.ensures.refused)

@@ -2,7 +2,8 @@ use Rattle.std.proofs.Common.{◌≡◌, ◌+◌, ◌*◌, ◌^◌, length, sym,
 use Rattle.std.proofs.lemmas.Result.{err_from_is_err_and}
 use Rattle.make_job.specs.Made.{nothing_made, with_events, with_draws, made_text}
 use Rattle.make_job.specs.Making.{IsMaking, HasPlace, AreReady, AddsFront}
-use Rattle.make_job.proofs.MadeLemmas.{on_ok, on_err, begun, counted, drawn, drawn_front, begun_front, header_front, makes_front, makes, makes_nothing, anew, adds_whole, whole_front, fewer}
+use Rattle.make_job.proofs.MadeLemmas.{begun, counted, drawn, drawn_front, begun_front, header_front, makes_front, makes, makes_nothing, anew, adds_whole, whole_front, fewer}
+use Rattle.rooms_val.proofs.Truths.{on_ok_so, on_err_so}
 use Rattle.make_job.proofs.ReadyLemmas.{first_ready, first_few}
 use Rattle.make_job.proofs.make.make.Goals as goal
 
@@ -82,7 +83,7 @@ returns-clause-ok g c =
     (anew made.0 (begun made.0 made.1 c.args.seed c.args.size print) c.take_all.new.self old (held c.take_all.new.sink) first) in
     let all = subst (λ r. IsMaking made.0 (with_draws print made.0 c.args.size r (counted made.0 made.1 c.args.seed c.args.size print)) c.draw_all.new.making old (held c.draw_all.new.sink)) c.new-maker.ensures
     (c.in_ok-draw_all.ensures.ok made.0 (counted made.0 made.1 c.args.seed c.args.size print) old count) in
-    on_ok c.end.result _ _ (λ told. makes made.0 made.1 c.args.seed c.args.size print old (held c.end.new.sink) (told made.0 (drawn made.0 made.1 c.args.seed c.args.size print) old all)) c.end.ensures.ok
+    on_ok_so c.end.result _ _ (λ told. makes made.0 made.1 c.args.seed c.args.size print old (held c.end.new.sink) (told made.0 (drawn made.0 made.1 c.args.seed c.args.size print) old all)) c.end.ensures.ok
 
 pub returns-clause-err : goal.returns-clause-err
 returns-clause-err g c =
@@ -97,6 +98,6 @@ returns-clause-err g c =
     (anew made.0 (begun made.0 made.1 c.args.seed c.args.size print) c.take_all.new.self old (held c.take_all.new.sink) first) in
     let all = subst (λ r. IsMaking made.0 (with_draws print made.0 c.args.size r (counted made.0 made.1 c.args.seed c.args.size print)) c.draw_all.new.making old (held c.draw_all.new.sink)) c.new-maker.ensures
     (c.in_ok-draw_all.ensures.ok made.0 (counted made.0 made.1 c.args.seed c.args.size print) old count) in
-    on_err c.end.result _ _
+    on_err_so c.end.result _ _
     (λ told. makes_front made.0 made.1 c.args.seed c.args.size print (made_text made.0 c.args.seed c.args.size print) old (held c.end.new.sink)
     (told made.0 (drawn made.0 made.1 c.args.seed c.args.size print) old all) (whole_front (made_text made.0 c.args.seed c.args.size print))) c.end.ensures.err

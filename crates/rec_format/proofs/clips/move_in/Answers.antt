@@ -1,5 +1,5 @@
 use Rattle.rooms_val.specs.Data.{whole}
-use Rattle.rec_format.proofs.RefusalLemmas.{any_err}
+use Rattle.rooms_val.proofs.Truths.{any_err}
 use Rattle.rec_format.proofs.clips.move_in.Goals as goal
 
 pub returns-in_err-number-clause-only : goal.returns-in_err-number-clause-only

@@ -1,4 +1,4 @@
-use Rattle.rec_format.proofs.RefusalLemmas.{any_err}
+use Rattle.rooms_val.proofs.Truths.{any_err}
 use Rattle.rec_format.proofs.clips.parent_in.Goals as goal
 
 pub returns-in_err-id-clause-only : goal.returns-in_err-id-clause-only

@@ -1,5 +1,5 @@
 use Rattle.rec_format.specs.Verbs.{word_of}
-use Rattle.rec_format.proofs.RefusalLemmas.{any_err}
+use Rattle.rooms_val.proofs.Truths.{any_err}
 use Rattle.rec_format.proofs.entries.check_verb.Goals as goal
 
 pub returns-in_err-text_in-clause-only : goal.returns-in_err-text_in-clause-only

@@ -1,6 +1,6 @@
 use Rattle.std.proofs.Common.{pos}
 use Rattle.rooms_val.specs.Data.{whole}
-use Rattle.rec_format.proofs.RefusalLemmas.{any_err}
+use Rattle.rooms_val.proofs.Truths.{any_err}
 use Rattle.rec_format.proofs.entries.number_in.Goals as goal
 
 pub returns-in_err-number-clause-only : goal.returns-in_err-number-clause-only

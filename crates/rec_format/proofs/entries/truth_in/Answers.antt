@@ -1,5 +1,5 @@
 use Rattle.rooms_val.specs.Data.{boolean}
-use Rattle.rec_format.proofs.RefusalLemmas.{any_err}
+use Rattle.rooms_val.proofs.Truths.{any_err}
 use Rattle.rec_format.proofs.entries.truth_in.Goals as goal
 
 pub returns-in_err-truth-clause-only : goal.returns-in_err-truth-clause-only

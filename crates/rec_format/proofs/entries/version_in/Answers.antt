@@ -1,4 +1,4 @@
-use Rattle.rec_format.proofs.RefusalLemmas.{any_err}
+use Rattle.rooms_val.proofs.Truths.{any_err}
 use Rattle.rec_format.proofs.entries.version_in.Goals as goal
 
 pub returns-in_err-version-clause-only : goal.returns-in_err-version-clause-only

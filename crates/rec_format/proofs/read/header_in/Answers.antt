@@ -2,7 +2,7 @@ use Rattle.std.proofs.Common.{sym, ap, ◌∙◌}
 use Rattle.rooms_val.specs.View.{data_of}
 use Rattle.field_ops.proofs.WireLemmas.{same_map}
 use Rattle.rec_format.specs.Events.{header_fields}
-use Rattle.rec_format.proofs.RefusalLemmas.{any_err}
+use Rattle.rooms_val.proofs.Truths.{any_err}
 use Rattle.rec_format.proofs.read.header_in.Goals as goal
 
 pub returns-in_err-header_of-clause-only : goal.returns-in_err-header_of-clause-only

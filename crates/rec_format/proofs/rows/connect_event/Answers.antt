@@ -1,6 +1,6 @@
 use Rattle.std.proofs.Common.{arith}
 use Rattle.std.proofs.lemmas.Grind.{common_steps}
-use Rattle.rec_format.proofs.RefusalLemmas.{any_err}
+use Rattle.rooms_val.proofs.Truths.{any_err}
 use Rattle.rec_format.proofs.rows.connect_event.Goals as goal
 
 pub returns-in_err-client-clause-only : goal.returns-in_err-client-clause-only

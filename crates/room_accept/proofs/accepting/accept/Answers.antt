@@ -4,7 +4,7 @@ use mir.Val.{to_z, of_z}
 use Rattle.field_ops.specs.ViewRecordOps.{maybe_change}
 use Rattle.schema_core.specs.SchemaOf.{schema_tree}
 use Rattle.room_model.specs.Accepting.{is_fit}
-use Rattle.room_model.proofs.ActingLemmas.{left, right}
+use Rattle.rooms_val.proofs.Truths.{and_left, and_right}
 use Rattle.room_schemas.specs.Decided.{decided, is_presence}
 use Rattle.room_accept.specs.Parts.{are_documents}
 use Rattle.room_accept.specs.Pushes.{member_of, push_of}
@@ -31,7 +31,7 @@ document_part-requires-clause-documents c not =
     let s = schema_tree c.args.schema.now in
     let push = push_of c.args.push in
     let member = member_of c.args.member in
-    fit_documents s member.plan push.diff (is_fit_of member.readonly (is_fit (decided s) member.plan push.diff) (left _ _ (sym c.in_ok-is_taken.ensures ∙ c.if-not-branch.false)) not)
+    fit_documents s member.plan push.diff (is_fit_of member.readonly (is_fit (decided s) member.plan push.diff) (and_left _ _ (sym c.in_ok-is_taken.ensures ∙ c.if-not-branch.false)) not)
 
 pub with_presence-requires-clause-documents : goal.with_presence-requires-clause-documents
 with_presence-requires-clause-documents c =
@@ -40,7 +40,7 @@ with_presence-requires-clause-documents c =
     let member = member_of c.args.member in
     ap (are_documents s) c.in_ok-part.ensures.diff
     ∙ part_documents s member c.args.records.now.0 push.diff (λ not.
-    fit_documents s member.plan push.diff (is_fit_of member.readonly (is_fit (decided s) member.plan push.diff) (left _ _ (sym c.in_ok-is_taken.ensures ∙ c.if-not-branch.false)) not))
+    fit_documents s member.plan push.diff (is_fit_of member.readonly (is_fit (decided s) member.plan push.diff) (and_left _ _ (sym c.in_ok-is_taken.ensures ∙ c.if-not-branch.false)) not))
 
 pub with_presence-requires-clause-presence : goal.with_presence-requires-clause-presence
 with_presence-requires-clause-presence c = ap (is_presence (schema_tree c.args.schema.now)) c.in_ok-id.ensures ∙ c.requires.presence c.args.member.session
@@ -53,4 +53,4 @@ returns-clause-entry c =
     c.in_ok-id.ensures c.in_ok-own.ensures c.in_ok-part.ensures.diff c.in_ok-diff.ensures.diff c.in_ok-action.ensures
 
 pub with_presence-requires-clause-own : goal.with_presence-requires-clause-own
-with_presence-requires-clause-own c = right _ _ (sym c.in_ok-is_taken.ensures ∙ c.if-not-branch.false)
+with_presence-requires-clause-own c = and_right _ _ (sym c.in_ok-is_taken.ensures ∙ c.if-not-branch.false)

@@ -8,7 +8,7 @@ use Rattle.field_ops.specs.View.{maybe_data}
 use Rattle.schema_core.specs.Admits.{is_document}
 use Rattle.schema_core.specs.SchemaOf.{schema_tree}
 use Rattle.room_model.specs.Accepting.{accept_ops, tried_op}
-use Rattle.room_model.proofs.ActingLemmas.{left, right}
+use Rattle.rooms_val.proofs.Truths.{and_left, and_right}
 use Rattle.room_schemas.specs.Decided.{decided}
 use Rattle.room_accept.specs.Parts.{are_documents, with_tried}
 use Rattle.room_accept.specs.Plans.{plan_of}
@@ -48,7 +48,7 @@ accept_one-requires c =
     record {
       part = c.ids.invariant.part;
       admitted = c.requires.admitted;
-      document = left _ _ documents;
+      document = and_left _ _ documents;
       later = rising_up_to c.ids.part.diff (x.0, change_of x.1) more rising;
     }
 
@@ -70,11 +70,11 @@ ids-preserved c =
     let next : c.in_ok-part.part.diff ≡ with_tried s size part x.0 tries r = c.in_ok-part.ensures.diff in
     record {
       goes_on = ap (λ d. d ++ accept_ops (decided s) plan (fold_raw m d) more) next
-          ∙ sym (going_on s m c.in_ok-part.ensures.sound part size c.ids.invariant.part.size x.0 (left _ _ documents) (none_before x.0 more part (change_of x.1) rising) plan (change_of x.1) more)
+          ∙ sym (going_on s m c.in_ok-part.ensures.sound part size c.ids.invariant.part.size x.0 (and_left _ _ documents) (none_before x.0 more part (change_of x.1) rising) plan (change_of x.1) more)
           ∙ ap (λ l. part ++ accept_ops (decided s) plan (fold_raw m part) l) (sym parts) ∙ c.ids.invariant.goes_on;
       part = c.in_ok-part.ensures.part;
       rising = subst (λ d. AreRising (d ++ more)) (sym next) (rising_tried s size part x.0 (change_of x.1) tries r more rising);
-      documents = right _ _ documents;
+      documents = and_right _ _ documents;
     }
 
 pub returns-clause-diff : goal.returns-clause-diff

@@ -9,7 +9,8 @@ use Rattle.schema_core.specs.Admits.{is_admitted}
 use Rattle.schema_core.specs.SchemaOf.{schema_tree}
 use Rattle.room_schemas.specs.Decided.{decided}
 use Rattle.room_accept.specs.Sizes.{size_after, is_within}
-use Rattle.room_accept.proofs.PartLemmas.{acted, and_false}
+use Rattle.room_accept.proofs.PartLemmas.{acted}
+use Rattle.rooms_val.proofs.Truths.{and_false}
 use Rattle.room_accept.proofs.SizeLemmas.{within_same, exact_within}
 use Rattle.room_accept.proofs.part.left_by.Goals as goal
 

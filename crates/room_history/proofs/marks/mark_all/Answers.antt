@@ -4,7 +4,7 @@ use Rattle.change_list.specs.Changes.{listed, AreUpTo}
 use Rattle.std.specs.List.{list_all}
 use Rattle.rooms_val.specs.Maps.{AreRising}
 use Rattle.rooms_val.proofs.MapsLemmas.{none_later, rising_rest}
-use Rattle.room_model.proofs.ActingLemmas.{left as first, right as second}
+use Rattle.rooms_val.proofs.Truths.{and_left, and_right}
 use Rattle.room_history.specs.Marks.{Marks, Lists, is_listed, mark_one, mark_all}
 use Rattle.room_history.proofs.ListedLemmas.{can_mark, latest_after}
 use Rattle.room_history.proofs.marks.mark_all.Goals as goal
@@ -35,7 +35,7 @@ mark_one-requires c =
     let few = ap length parts in
     record {
       latest = c.marks.invariant.latest;
-      live = first _ _ live;
+      live = and_left _ _ live;
       spare = omega (arith, few, c.marks.invariant.spare);
     }
 
@@ -54,7 +54,7 @@ marks-preserved c =
       start = c.mark_one.ensures.start ∙ c.marks.invariant.start;
       rising = rising_rest (c.in-Some.id, c.in-Some.live) rest rising;
       latest = subst (λ (ls : Lists). AreUpTo clock (ls.0 ++ ls.1)) (sym marked) (latest_after clock c.in-Some.id c.in-Some.live old c.marks.invariant.latest);
-      live = subst (λ (ls : Lists). list_all (λ mark. mark.1 || is_listed ls.0 mark.0) rest ≡ true) (sym marked) (can_mark clock c.in-Some.id c.in-Some.live old rest (none_later (c.in-Some.id, c.in-Some.live) rest rising) (second _ _ live));
+      live = subst (λ (ls : Lists). list_all (λ mark. mark.1 || is_listed ls.0 mark.0) rest ≡ true) (sym marked) (can_mark clock c.in-Some.id c.in-Some.live old rest (none_later (c.in-Some.id, c.in-Some.live) rest rising) (and_right _ _ live));
       spare = omega (arith, few, c.marks.invariant.spare, c.mark_one.ensures.spare);
     }
 

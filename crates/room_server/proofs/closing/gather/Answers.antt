@@ -1,7 +1,8 @@
 use Rattle.std.proofs.Common.{◌≡◌, ℕ, ◌++◌, ◌∷◌, [], All, length, sym, ap, ◌∙◌, rules, subst, arith, vec_len, append_assoc, append-nil, length-append}
 use Rattle.std.specs.List.{AllZip}
 use Rattle.std.proofs.lemmas.List.Elements.{AllZip-push}
-use Rattle.room_server.proofs.GatherLemmas.{adds_tally, gathered_of, nothing_left, part_of}
+use Rattle.room_server.proofs.GatherLemmas.{adds_tally, gathered_of, part_of}
+use Rattle.rooms_val.proofs.Truths.{no_items}
 use Rattle.room_server.specs.Closing.{AreGathered, IsBelow, IsEmptied, reports_of}
 use Rattle.room_server.proofs.closing.gather.Goals as goal
 
@@ -36,7 +37,7 @@ tallies-preserved c =
 pub returns-clause-gones : goal.returns-clause-gones
 returns-clause-gones c =
     let none : ◌≡◌ {A = ℕ} (length c.tallies.tally-iterator.rest.items) 0 = search rules in
-    let done : c.tallies.tally-iterator.rest.items ≡ [] = nothing_left c.tallies.tally-iterator.rest.items none in
+    let done : c.tallies.tally-iterator.rest.items ≡ [] = no_items c.tallies.tally-iterator.rest.items none in
     let all : c.tallies.yielded ≡ c.args.tallies.items = sym (append-nil c.tallies.yielded) ∙ ap (λ l. c.tallies.yielded ++ l) (sym done) ∙ c.tallies.invariant.all in
     subst (λ l. AreGathered (reports_of l) c.tallies.gones.items) all
     (gathered_of (reports_of c.tallies.yielded) c.in_ok-gones.gones.items c.tallies.gones.items c.in_ok-gones.ensures.none c.tallies.invariant.adds)

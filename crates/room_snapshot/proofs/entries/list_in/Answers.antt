@@ -1,5 +1,5 @@
 use Rattle.rooms_val.specs.Data.{list, items_of}
-use Rattle.room_snapshot.proofs.RefusalLemmas.{any_err}
+use Rattle.rooms_val.proofs.Truths.{any_err}
 use Rattle.room_snapshot.proofs.entries.list_in.Goals as goal
 
 pub returns-in_err-items-clause-only : goal.returns-in_err-items-clause-only

@@ -8,7 +8,8 @@ use Rattle.rooms_val.specs.Data.{Data, items_of, members_of, AreSoundItems, AreS
 use Rattle.rooms_val.specs.Json.{value_in}
 use Rattle.rooms_val.specs.View.{data_of, items_view, pairs_view}
 use Rattle.rooms_val.proofs.DataLemmas.{sound_push, items_view-push}
-use Rattle.rooms_val.proofs.FromJsonLemmas.{pair_in, items_in-items_view, members_in-members_view, empty, sound_from_ordered, each_sound_push, pairs_view-push, moved}
+use Rattle.rooms_val.proofs.FromJsonLemmas.{pair_in, items_in-items_view, members_in-members_view, sound_from_ordered, each_sound_push, pairs_view-push, moved}
+use Rattle.rooms_val.proofs.Truths.{no_items}
 use Rattle.rooms_val.proofs.from_json.+from_json.Goals as goal
 
 pub fields_of-loop-key-preserved : goal.fields_of-loop-key-preserved
@@ -54,6 +55,6 @@ vals_of-returns t c =
     let l = c.loop-item in
     let of : Value → Data = λ v. value_in (view v) in
     let so_far = items_view l.vals.items in
-    let none : into_iter_items l.item-iterator ≡ [] = empty (into_iter_items l.item-iterator) (sym l.invariant.2 ∙ c.in-None.ensures.steps.0) in
+    let none : into_iter_items l.item-iterator ≡ [] = no_items (into_iter_items l.item-iterator) (sym l.invariant.2 ∙ c.in-None.ensures.steps.0) in
     let all : so_far ≡ map of c.args.items.items = sym (append-nil so_far) ∙ ap (λ vs. so_far ++ map of vs) (sym none) ∙ l.invariant.1 in
     IfOk-weaker c.from_vec.result _ _ (λ vals is. ap items_of (is ∙ all) ∙ items_in-items_view c.args.items.items) c.from_vec.ensures

@@ -3,7 +3,8 @@ use Rattle.std.specs.List.{slice_get}
 use Rattle.signal_values.specs.declared.cells.Row.{Row}
 use Rattle.signal_values.specs.Cells.{atoms_of}
 use Rattle.signal_values.specs.Kept.{IsLeft, IsFreshAt, IsRead}
-use Rattle.signal_values.proofs.ListLemmas.{either, ok_then, err_then}
+use Rattle.signal_values.proofs.ListLemmas.{either}
+use Rattle.rooms_val.proofs.Truths.{if_ok_then, on_err_then}
 use Rattle.signal_values.proofs.AtomLemmas.{exact}
 use Rattle.signal_values.proofs.KeptLemmas.{left_none}
 use Rattle.signal_values.proofs.SettleLemmas.{added_left, same_left, added_at, added_flag}
@@ -43,7 +44,7 @@ returns-clause-left g c =
 pub returns-clause-found : goal.returns-clause-found
 returns-clause-found g c =
     let row : Row g.row.R-Key.Denot g.row.R-Value.Denot = record { key = c.in_ok-copy_key.field-0; value = c.in_ok-blank.field-0; changed = None } in
-    ok_then c.add_row.result _ (IsFreshAt c.add_row.new.cells c.args.key.now) c.add_row.ensures.ok
+    if_ok_then c.add_row.result _ (IsFreshAt c.add_row.new.cells c.args.key.now) c.add_row.ensures.ok
     (λ i added. record {
       row = row;
       at = added_at g.R.Key.Ord.cmp c.args.cells.now c.add_row.new.cells row true i added;
@@ -54,7 +55,7 @@ returns-clause-found g c =
 pub returns-clause-read : goal.returns-clause-read
 returns-clause-read g c =
     let row : Row g.row.R-Key.Denot g.row.R-Value.Denot = record { key = c.in_ok-copy_key.field-0; value = c.in_ok-blank.field-0; changed = None } in
-    ok_then c.add_row.result _ (IsRead c.args.cells.now c.add_row.new.cells) c.add_row.ensures.ok (λ i added. record { row = row; place = added.place; rows = added.rows; changed = refl })
+    if_ok_then c.add_row.result _ (IsRead c.args.cells.now c.add_row.new.cells) c.add_row.ensures.ok (λ i added. record { row = row; place = added.place; rows = added.rows; changed = refl })
 
 pub returns-clause-err : goal.returns-clause-err
-returns-clause-err g c = err_then c.add_row.result _ _ c.add_row.ensures.err (λ same. (same.rows, same.flags))
+returns-clause-err g c = on_err_then c.add_row.result _ _ c.add_row.ensures.err (λ same. (same.rows, same.flags))

@@ -5,7 +5,7 @@ use Rattle.room_snapshot.specs.Readings.{IsLine, RefusesLine}
 use Rattle.room_snapshot.specs.Saved.{saved_tree}
 use Rattle.room_snapshot.specs.declared.fault.SnapFault.TheVariants as snap
 use Rattle.room_snapshot.specs.declared.snapshot.TheConstants as snapshot
-use Rattle.replay_job.proofs.TakingLemmas.{if_ok}
+use Rattle.rooms_val.proofs.Truths.{if_ok_then}
 use Rattle.snapshot_jobs.specs.Beginning.{BeginsSaved, BeginsHeader, line_of}
 use Rattle.snapshot_jobs.specs.Seeking.{Seeks}
 use Rattle.snapshot_jobs.proofs.BeginLemmas.{line_refused, line_too_long, line_missing, line_taken}
@@ -24,7 +24,7 @@ returns-in-Ok-clause-begins g c =
     let read = c.in-Ok.snapshot in
     let seeks = subst (λ s. Seeks snapshot.LONGEST_LINE first.longest 1 (budget first) old (budget mid) come mid.line s) c.in-Line.is c.in_ok-sought.ensures.found in
     let is : IsLine mid.line (saved_tree read.saved) read.held = subst (λ b. IsLine b (saved_tree read.saved) read.held) c.line.ensures.line c.in-Ok.ensures.found in
-    if_ok c.begin_with.result (λ begun. BeginsHeader (line_of at read) mid.longest (budget mid) come (budget last) further begun)
+    if_ok_then c.begin_with.result (λ begun. BeginsHeader (line_of at read) mid.longest (budget mid) come (budget last) further begun)
     (λ begun. BeginsSaved first.longest (budget first) old (budget last) further begun) c.begin_with.ensures.begins
     (λ begun later. line_taken first.longest (budget first) (budget mid) (budget last) come further mid.line old at read begun seeks is
     (subst (λ l. BeginsHeader (line_of at read) l (budget mid) come (budget last) further begun) c.in_ok-sought.ensures.longest later))

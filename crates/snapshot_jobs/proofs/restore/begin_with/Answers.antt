@@ -5,7 +5,7 @@ use Rattle.rec_format.specs.declared.fault.LineFault.TheVariants as of_line
 use Rattle.rec_format.specs.declared.read.TheConstants as format
 use Rattle.schema_core.specs.Tree.{SchemaTree}
 use Rattle.tl_tables.specs.Tables.{IsSchemaAt}
-use Rattle.replay_job.proofs.TakingLemmas.{if_ok}
+use Rattle.rooms_val.proofs.Truths.{if_ok_then}
 use Rattle.snapshot_jobs.specs.Beginning.{BeginsAt, BeginsHeader, line_of}
 use Rattle.snapshot_jobs.specs.Seeking.{Seeks}
 use Rattle.snapshot_jobs.proofs.BeginLemmas.{header_read, header_refused, header_too_long, header_missing}
@@ -23,7 +23,7 @@ returns-in-Ok-clause-begins g c =
     let header = c.in-Ok.header in
     let seeks = subst (λ s. Seeks format.LONGEST_LINE first.longest (c.args.from + 1) (budget first) old (budget mid) come mid.line s) c.in-Line.is c.in_ok-sought.ensures.found in
     let is : IsHeader mid.line header = subst (λ b. IsHeader b header) c.line.ensures.line c.in-Ok.ensures.found in
-    if_ok c.begin_at.result (λ begun. (schema : SchemaTree) × IsSchemaAt header.version schema × BeginsAt schema from (at + 1) begun)
+    if_ok_then c.begin_at.result (λ begun. (schema : SchemaTree) × IsSchemaAt header.version schema × BeginsAt schema from (at + 1) begun)
     (λ begun. BeginsHeader from first.longest (budget first) old (budget mid) come begun) c.begin_at.ensures.begins
     (λ begun h. header_read from first.longest (budget first) (budget mid) come mid.line old at header begun seeks is c.in-Ok.ensures.found.1 h)
 

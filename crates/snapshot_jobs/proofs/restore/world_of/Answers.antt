@@ -6,7 +6,7 @@ use Rattle.schema_core.specs.SchemaOf.{schema_tree}
 use Rattle.schema_core.specs.Tree.{SchemaTree}
 use Rattle.table_schemas.proofs.PresenceLemmas.{presences}
 use Rattle.tl_tables.specs.Tables.{IsSchemaAt}
-use Rattle.replay_job.proofs.TakingLemmas.{if_ok}
+use Rattle.rooms_val.proofs.Truths.{if_ok_then}
 use Rattle.snapshot_jobs.specs.Restored.{IsRoomOf, IsWorldOf}
 use Rattle.snapshot_jobs.proofs.RangeLemmas.{clock_low}
 use Rattle.snapshot_jobs.proofs.WorldLemmas.{made_of, unplanned}
@@ -25,7 +25,7 @@ returns-in-Ok-raise g c =
     let held = c.args.snapshot.held in
     let ds = records_of saved.documents in
     let ids : HaveIds ds = subst (λ o. MatchOption o (HaveIds ds) (IsFirstFault ds)) c.in_default.is c.in_ok-id.ensures.first in
-    if_ok c.room_of.result (λ answer. IsRoomOf tree c.in-Ok-raise.saved answer) (λ answer. (x : SchemaTree) × IsSchemaAt c.args.version x × IsWorldOf x saved held answer) c.room_of.ensures
+    if_ok_then c.room_of.result (λ answer. IsRoomOf tree c.in-Ok-raise.saved answer) (λ answer. (x : SchemaTree) × IsSchemaAt c.args.version x × IsWorldOf x saved held answer) c.room_of.ensures
     (λ answer of. (tree, c.in-Ok.ensures.known, made_of tree saved held ids c.in-Ok-raise.saved answer c.in-Ok-raise.ensures.answer of))
 
 pub returns-in_ok-plan_fault_text-in-Err : goal.returns-in_ok-plan_fault_text-in-Err

@@ -1,4 +1,4 @@
-use Rattle.wire_msgs.proofs.RefusalLemmas.{any_err}
+use Rattle.rooms_val.proofs.Truths.{any_err}
 use Rattle.wire_msgs.proofs.entries.check_type.Goals as goal
 
 pub returns-in_err-text_in-clause-only : goal.returns-in_err-text_in-clause-only

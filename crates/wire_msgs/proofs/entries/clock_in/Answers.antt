@@ -1,4 +1,4 @@
-use Rattle.wire_msgs.proofs.RefusalLemmas.{any_err}
+use Rattle.rooms_val.proofs.Truths.{any_err}
 use Rattle.wire_msgs.proofs.entries.clock_in.Goals as goal
 
 pub returns-in_err-clock-clause-only : goal.returns-in_err-clock-clause-only

@@ -1,5 +1,5 @@
 use Rattle.wire_msgs.specs.Messages.{hydration_word}
-use Rattle.wire_msgs.proofs.RefusalLemmas.{any_err}
+use Rattle.rooms_val.proofs.Truths.{any_err}
 use Rattle.wire_msgs.proofs.entries.hydration_in.Goals as goal
 
 pub returns-in_err-text_in-clause-only : goal.returns-in_err-text_in-clause-only

@@ -1,5 +1,5 @@
 use Rattle.rooms_val.specs.Data.{whole}
-use Rattle.wire_msgs.proofs.RefusalLemmas.{any_err}
+use Rattle.rooms_val.proofs.Truths.{any_err}
 use Rattle.wire_msgs.proofs.entries.number_in.Goals as goal
 
 pub returns-in_err-number-clause-only : goal.returns-in_err-number-clause-only

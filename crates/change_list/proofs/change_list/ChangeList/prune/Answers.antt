@@ -6,7 +6,8 @@ use Rattle.std.proofs.lemmas.List.{length-map}
 use Rattle.links_core.specs.Lists.{list_at}
 use Rattle.change_list.specs.Changes.{blank, is_after, most_dead, kept_dead}
 use Rattle.change_list.specs.Kept.{entry_at, changes_at}
-use Rattle.change_list.proofs.PruneLemmas.{pruned_kept, next_dead_is, length_filter, map_filter}
+use Rattle.change_list.proofs.PruneLemmas.{pruned_kept, next_dead_is, map_filter}
+use Rattle.rooms_val.proofs.Truths.{filter_shorter}
 use Rattle.change_list.proofs.change_list.ChangeList.prune.Goals as goal
 
 pub clock_at-self-inside-requires-clause-made : goal.clock_at-self-inside-requires-clause-made
@@ -42,5 +43,5 @@ returns-clause-dead c =
 
 pub returns-clause-spare : goal.returns-clause-spare
 returns-clause-spare c =
-    let shorter : length c.forget_up_to.new.order.items ≤ length c.self.inside.order.items = rw c.forget_up_to.ensures.items (length_filter _ _) in
+    let shorter : length c.forget_up_to.new.order.items ≤ length c.self.inside.order.items = rw c.forget_up_to.ensures.items (filter_shorter _ _) in
     omega (arith, ap (λ s. s.spare) c.self.view_is, c.free_up_to.ensures.spare, c.forget_up_to.ensures.room, shorter)

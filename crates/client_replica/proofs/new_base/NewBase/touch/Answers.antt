@@ -5,7 +5,7 @@ use Rattle.rooms_val.proofs.ListLemmas.{one_off}
 use Rattle.field_ops.specs.ViewRecordOps.{change_of}
 use Rattle.client_replica.specs.NewBases.{laid, IsLaid}
 use Rattle.client_replica.proofs.StashLemmas.{few-kept, exact-end}
-use Rattle.client_replica.proofs.WorkLemmas.{or_first, or_second}
+use Rattle.rooms_val.proofs.Truths.{or_left, or_right}
 use Rattle.client_replica.proofs.NewBaseLemmas.{laid-kept, held-next}
 use Rattle.client_replica.proofs.new_base.NewBase.touch.Goals as goal
 
@@ -33,10 +33,10 @@ pub returns-clause-named : goal.returns-clause-named
 returns-clause-named g c = λ q is.
     let before = c.args.self.now.changes in
     exact-end change_of before c.ids.self.changes c.as_slice-id-items.result.now c.args.diff.now c.ids.id-index (omega arith) c.as_slice-id-items.ensures.pairs q (c.ids.invariant.named q)
-    ∙ or_second (is_some (value_at before q)) (is_some (value_at c.args.diff.now q)) is
+    ∙ or_right (is_some (value_at before q)) (is_some (value_at c.args.diff.now q)) is
 
 pub returns-clause-more : goal.returns-clause-more
 returns-clause-more g c = λ q is.
     let before = c.args.self.now.changes in
     exact-end change_of before c.ids.self.changes c.as_slice-id-items.result.now c.args.diff.now c.ids.id-index (omega arith) c.as_slice-id-items.ensures.pairs q (c.ids.invariant.named q)
-    ∙ or_first (is_some (value_at before q)) (is_some (value_at c.args.diff.now q)) is
+    ∙ or_left (is_some (value_at before q)) (is_some (value_at c.args.diff.now q)) is

@@ -6,7 +6,8 @@ use Rattle.record_store.specs.Calls.{KeepsApart}
 use Rattle.record_store.specs.Kept.{IsBoard}
 use Rattle.record_store.specs.Lists.{Board, atoms_of, begun_of, IsWritten, ChangesOnly, AreTurned}
 use Rattle.record_store.specs.Seen.{Seen, records, begun, epoch, records_under}
-use Rattle.record_store.proofs.FrameLemmas.{on_err, epoch_after}
+use Rattle.record_store.proofs.FrameLemmas.{epoch_after}
+use Rattle.rooms_val.proofs.Truths.{on_err_anyway}
 use Rattle.signal_values.specs.Seen.{top}
 use Rattle.record_store.specs.Tells.{JoinsOnly, TellsOn}
 use Rattle.record_store.proofs.CallLemmas.{none_open}
@@ -26,7 +27,7 @@ invariant_of-self-in_err-open g c =
 pub returns-in_err-open-clause-err : goal.returns-in_err-open-clause-err
 returns-in_err-open-clause-err g c =
     let old : Seen = record { keys = c.self.inside.keys; txn = c.self.inside.graph } in
-    on_err c.from_residual-in_err-open.result
+    on_err_anyway c.from_residual-in_err-open.result
     (records_then old c.self.invariant c.args.id.now c.add.new.self c.in_ok-add.ensures.ok (atoms_of c.open.new.graph) (ap atoms_of c.in_err-open.ensures.err) ∙ ap records c.self.view_is)
 
 pub returns-in_err-open-clause-begun : goal.returns-in_err-open-clause-begun

@@ -5,7 +5,8 @@ use Rattle.signal_values.specs.Kept.{IsFreshAt, IsFreshKey}
 use Rattle.signal_values.proofs.AtomLemmas.{exact}
 use Rattle.signal_values.proofs.KeptLemmas.{sound_here}
 use Rattle.signal_values.specs.Cells.{atoms_of}
-use Rattle.signal_values.proofs.SeenLemmas.{seen, got_from, value_from, ok_so}
+use Rattle.signal_values.proofs.SeenLemmas.{seen, got_from, value_from}
+use Rattle.rooms_val.proofs.Truths.{if_ok_then}
 use Rattle.signal_values.proofs.values.Values.compute.Goals as goal
 
 pub refresh-requires : goal.refresh-requires
@@ -23,7 +24,7 @@ returns-clause-got g c =
 pub returns-clause-value : goal.returns-clause-value
 returns-clause-value g c =
     subst (λ (s : Seen g.row.R.Denot g.row.R-Key.Denot g.row.R-Value.Denot). IfOk c.refresh.result (IsValueAt (g.R.Rules.meaning s.rules) g.R.Key.Ord.cmp s (seen c.self.inside.rules c.refresh.new.cells c.self.inside.epoch) c.args.key.now)) c.self.view_is
-    (ok_so c.refresh.result (IsFreshAt c.refresh.new.cells c.args.key.now) _ c.refresh.ensures.found
+    (if_ok_then c.refresh.result (IsFreshAt c.refresh.new.cells c.args.key.now) _ c.refresh.ensures.found
     (λ i found. value_from (g.R.Rules.meaning c.self.inside.rules) g.R.Key.Ord.cmp (g.met.R.Rules.lawful c.self.inside.rules) c.self.inside.rules c.self.inside.cells c.refresh.new.cells c.self.inside.epoch c.args.key.now i c.refresh.ensures.left found))
 
 pub returns-clause-free : goal.returns-clause-free
@@ -32,4 +33,4 @@ returns-clause-free g c = λ h.
 
 pub returns-clause-fresh : goal.returns-clause-fresh
 returns-clause-fresh g c =
-    ok_so c.refresh.result (IsFreshAt c.refresh.new.cells c.args.key.now) (λ _. IsFreshKey c.refresh.new.cells.rows.items c.refresh.new.cells.fresh.items c.args.key.now) c.refresh.ensures.found (λ i found. (i, found.row, found.at, found.is, found.ready))
+    if_ok_then c.refresh.result (IsFreshAt c.refresh.new.cells c.args.key.now) (λ _. IsFreshKey c.refresh.new.cells.rows.items c.refresh.new.cells.fresh.items c.args.key.now) c.refresh.ensures.found (λ i found. (i, found.row, found.at, found.is, found.ready))

@@ -4,14 +4,14 @@ use Rattle.client_replica.specs.Standing.{document_of}
 use Rattle.client_replica.specs.Works.{operations}
 use Rattle.sync_client.specs.Calls.{after_message, message_steps}
 use Rattle.sync_client.specs.Standing as client
-use Rattle.sync_client.proofs.ClientLemmas.{on_ok}
+use Rattle.rooms_val.proofs.Truths.{on_ok_with}
 use Rattle.undo_marks.specs.Standing as marks
 use Rattle.sync_peer.specs.Calls.{records_of}
 use Rattle.sync_peer.proofs.PeerLemmas.{stands_on, admits_are, document_is, message_version, message_marks}
 use Rattle.sync_peer.proofs.peer.Peer.take.Goals as goal
 
 pub returns-clause-ok : goal.returns-clause-ok
-returns-clause-ok g c = on_ok c.take.result (λ told schemas held stands.
+returns-clause-ok g c = on_ok_with c.take.result (λ told schemas held stands.
     let old = c.args.self.now in
     let said = c.args.message.now in
     let admits = (schema_of schemas held.client).admits in

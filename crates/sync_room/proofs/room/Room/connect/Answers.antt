@@ -9,7 +9,8 @@ use Rattle.sync_room.specs.Sessions.{with_at, is_new}
 use Rattle.sync_room.specs.Standing.{tree_of}
 use Rattle.sync_room.specs.declared.session.Phase.TheVariants.{Asked}
 use Rattle.sync_room.proofs.PushLemmas.{asks}
-use Rattle.sync_room.proofs.TableLemmas.{stays_in, some_there}
+use Rattle.sync_room.proofs.TableLemmas.{stays_in}
+use Rattle.rooms_val.proofs.Truths.{some_there}
 use Rattle.sync_room.proofs.room.Room.connect.Goals as goal
 
 pub returns-in_ok-copy-in-Ok-clause-step : goal.returns-in_ok-copy-in-Ok-clause-step

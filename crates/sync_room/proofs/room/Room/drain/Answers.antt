@@ -6,7 +6,8 @@ use Rattle.sync_room.specs.Sending.{IsNext, told_since}
 use Rattle.sync_room.specs.Sessions.{session_of}
 use Rattle.sync_room.specs.Standing.{tree_of}
 use Rattle.sync_room.proofs.RoomLemmas.{session_there}
-use Rattle.sync_room.proofs.SendLemmas.{drains_end, drains_pong, drains_message, unended_message, if_ok}
+use Rattle.sync_room.proofs.SendLemmas.{drains_end, drains_pong, drains_message, unended_message}
+use Rattle.rooms_val.proofs.Truths.{if_ok_then}
 use Rattle.sync_room.proofs.room.Room.drain.Goals as goal
 
 pub returns-in-End-clause-step : goal.returns-in-End-clause-step
@@ -26,7 +27,7 @@ returns-in-Pong-clause-step g c = λ state h.
 
 pub returns-in-Message-clause-step : goal.returns-in-Message-clause-step
 returns-in-Message-clause-step g c =
-    if_ok c.send.result _ _ c.send.ensures.step (λ given step state h.
+    if_ok_then c.send.result _ _ c.send.ensures.step (λ given step state h.
     let same : c.requires.0 ≡ c.at.result.now = let here = c.at.ensures in let there = c.requires.1 in cc in
     let number = ap (λ s. s.number) (sym same) ∙ c.requires.2 in
     let unended = unended_message c.at.result.now.phase c.at.result.now.pings (subst (IsNext c.at.result.now) c.in-Message.is c.next_kind.ensures) in
@@ -35,7 +36,7 @@ returns-in-Message-clause-step g c =
 
 pub returns-in-Message-clause-ticks : goal.returns-in-Message-clause-ticks
 returns-in-Message-clause-ticks g c =
-    if_ok c.send.result _ _ c.send.ensures.ticks (λ given ticks state session clock h there since.
+    if_ok_then c.send.result _ _ c.send.ensures.ticks (λ given ticks state session clock h there since.
     let same : c.requires.0 ≡ c.at.result.now = let here = c.at.ensures in let there = c.requires.1 in cc in
     let number = ap (λ s. s.number) (sym same) ∙ c.requires.2 in
     let unended = unended_message c.at.result.now.phase c.at.result.now.pings (subst (IsNext c.at.result.now) c.in-Message.is c.next_kind.ensures) in

@@ -5,7 +5,8 @@ use Rattle.room_model.specs.Rooms as model
 use Rattle.room_model.specs.Schemas.{presence_id}
 use Rattle.room_history.specs.Keeps.{Keeps}
 use Rattle.sync_room.specs.Sessions.{ended_by}
-use Rattle.sync_room.proofs.TableLemmas.{stays_in, some_there}
+use Rattle.sync_room.proofs.TableLemmas.{stays_in}
+use Rattle.rooms_val.proofs.Truths.{some_there}
 use Rattle.sync_room.proofs.RoomLemmas.{after_removal, closed, present_as}
 use Rattle.sync_room.proofs.room.Room.end.Goals as goal
 

@@ -5,13 +5,13 @@ use Rattle.room_model.specs.Reachable.{ArePresencesOwned}
 use Rattle.room_schemas.specs.Decided.{decided}
 use Rattle.sync_msgs.specs.declared.client_message.ClientMessage.TheVariants as message
 use Rattle.sync_room.specs.Standing.{Stands, tree_of}
-use Rattle.sync_room.proofs.PushLemmas.{not_ended, handles, on_err_map}
-use Rattle.sync_room.proofs.SendLemmas.{if_ok}
+use Rattle.sync_room.proofs.PushLemmas.{not_ended, handles}
+use Rattle.rooms_val.proofs.Truths.{if_ok_then, on_err_then}
 use Rattle.sync_room.proofs.room.Room.handle.Goals as goal
 
 pub returns-in-Connect-clause-step : goal.returns-in-Connect-clause-step
 returns-in-Connect-clause-step g c =
-    if_ok c.connect.result _ _ c.connect.ensures.step (λ reply step state h.
+    if_ok_then c.connect.result _ _ c.connect.ensures.step (λ reply step state h.
     let s = c.at.result.now in
     let same : c.requires.0 ≡ s = let here = c.at.ensures in let there = c.requires.1 in cc in
     let number = ap (λ s. s.number) (sym same) ∙ c.requires.2 in
@@ -24,11 +24,11 @@ returns-in-Connect-clause-step g c =
     _ c.args.message.now reply c.in-Connect.is follows)
 
 pub returns-in-Connect-clause-err : goal.returns-in-Connect-clause-err
-returns-in-Connect-clause-err g c = on_err_map c.connect.result _ _ c.connect.ensures.err (λ same state h. subst (Stands state) (sym same) h)
+returns-in-Connect-clause-err g c = on_err_then c.connect.result _ _ c.connect.ensures.err (λ same state h. subst (Stands state) (sym same) h)
 
 pub returns-in-Push-clause-step : goal.returns-in-Push-clause-step
 returns-in-Push-clause-step g c =
-    if_ok c.push.result _ _ c.push.ensures.step (λ reply step state h.
+    if_ok_then c.push.result _ _ c.push.ensures.step (λ reply step state h.
     let s = c.at.result.now in
     let same : c.requires.0 ≡ s = let here = c.at.ensures in let there = c.requires.1 in cc in
     let number = ap (λ s. s.number) (sym same) ∙ c.requires.2 in
@@ -39,7 +39,7 @@ returns-in-Push-clause-step g c =
     _ c.args.message.now reply c.in-Push.is follows)
 
 pub returns-in-Push-clause-err : goal.returns-in-Push-clause-err
-returns-in-Push-clause-err g c = on_err_map c.push.result _ _ c.push.ensures.err (λ keeps state h. record {
+returns-in-Push-clause-err g c = on_err_then c.push.result _ _ c.push.ensures.err (λ keeps state h. record {
   agrees = keeps state h.agrees;
   near = h.near;
   presences = subst (λ tree. ArePresencesOwned (decided tree) state) (sym c.push.ensures.schema) h.presences;

@@ -3,7 +3,8 @@ use Rattle.room_model.specs.declared.limits.TheConstants.{MOST_PINGS}
 use Rattle.sync_room.specs.Sessions.{with_at}
 use Rattle.sync_room.proofs.HandleLemmas.{next_pings, pings_kept}
 use Rattle.sync_room.proofs.RoomLemmas.{changes}
-use Rattle.sync_room.proofs.TableLemmas.{stays_in, some_there}
+use Rattle.sync_room.proofs.TableLemmas.{stays_in}
+use Rattle.rooms_val.proofs.Truths.{some_there}
 use Rattle.sync_room.proofs.room.Room.ping.Goals as goal
 
 pub returns-clause-step : goal.returns-clause-step

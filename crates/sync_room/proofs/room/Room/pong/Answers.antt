@@ -1,5 +1,6 @@
 use Rattle.std.proofs.Common.{refl}
-use Rattle.sync_room.proofs.TableLemmas.{stays_in, some_there}
+use Rattle.sync_room.proofs.TableLemmas.{stays_in}
+use Rattle.rooms_val.proofs.Truths.{some_there}
 use Rattle.sync_room.proofs.room.Room.pong.Goals as goal
 
 pub returns-clause-others : goal.returns-clause-others

@@ -7,7 +7,8 @@ use Rattle.room_accept.specs.Pushes.{push_of}
 use Rattle.sync_room.specs.Sessions.{session_of, phase_of, with_at, IsWithPushed}
 use Rattle.sync_room.specs.Standing.{Follows, Judges, tree_of}
 use Rattle.sync_room.proofs.PushLemmas.{taken, same_agrees}
-use Rattle.sync_room.proofs.TableLemmas.{stays_in, some_there, on_err, with_number, there_with}
+use Rattle.sync_room.proofs.TableLemmas.{stays_in, on_err, with_number, there_with}
+use Rattle.rooms_val.proofs.Truths.{some_there}
 use Rattle.sync_room.proofs.room.Room.push.Goals as goal
 
 pub returns-in_err-reserve_push-in-Ok-clause-err : goal.returns-in_err-reserve_push-in-Ok-clause-err

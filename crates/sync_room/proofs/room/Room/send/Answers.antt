@@ -2,7 +2,8 @@ use Rattle.std.proofs.Common.{w64, ◌≡◌, rules, refl, sym, ap, ◌∙◌}
 use Rattle.std.proofs.lemmas.Int.{to_z-of_z}
 use mir.Val.{SFits}
 use Rattle.sync_room.proofs.SendLemmas.{sent_message, sent_nothing}
-use Rattle.sync_room.proofs.TableLemmas.{stays_in, some_there, with_number}
+use Rattle.sync_room.proofs.TableLemmas.{stays_in, with_number}
+use Rattle.rooms_val.proofs.Truths.{some_there}
 use Rattle.sync_room.proofs.room.Room.send.Goals as goal
 
 pub returns-in-Some-clause-step : goal.returns-in-Some-clause-step

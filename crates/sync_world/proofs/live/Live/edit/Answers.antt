@@ -7,7 +7,8 @@ use Rattle.sync_world.specs.Answers.{Answers}
 use Rattle.sync_world.proofs.EditLemmas.{edit_done, edit_refused}
 use Rattle.sync_peer.specs.Viewing.{WatchAlike}
 use Rattle.sync_world.specs.Viewing.{stores_in, stores_kept, ChangesOne}
-use Rattle.sync_world.proofs.ViewingLemmas.{one_changes, holds_anyway}
+use Rattle.sync_world.proofs.ViewingLemmas.{one_changes}
+use Rattle.rooms_val.proofs.Truths.{on_ok_anyway}
 use Rattle.sync_world.proofs.live.Live.edit.Goals as goal
 
 pub returns-in_ok-push-in-Ok-clause-step : goal.returns-in_ok-push-in-Ok-clause-step
@@ -34,7 +35,7 @@ returns-in_ok-push-in-Ok-clause-stores g c =
     c.in-Some.ensures.found.1 c.index_mut.ensures.value WatchAlike c.edit.ensures.views))
 
 pub returns-in-Err-clause-stores : goal.returns-in-Err-clause-stores
-returns-in-Err-clause-stores g c = holds_anyway c.refused.result _
+returns-in-Err-clause-stores g c = on_ok_anyway c.refused.result _
     (subst (λ n. ChangesOne n (stores_in c.args.self.now)
     (stores_kept (slice_set c.args.self.now.clients.items c.in-Some.at (record c.index_mut.result.now { peer = c.edit.new.self })))) c.in-Some.ensures.found.0
     (one_changes c.args.self.now c.in-Some.at c.index_mut.result.now (record c.index_mut.result.now { peer = c.edit.new.self })

@@ -6,7 +6,8 @@ use Rattle.room_model.specs.Worlds.{on_presence}
 use Rattle.room_model.specs.declared.fault.StepFault.TheVariants.{Edit}
 use Rattle.sync_world.specs.Answers.{Answers}
 use Rattle.sync_world.proofs.PresenceLemmas.{presence_done, presence_refused}
-use Rattle.sync_world.proofs.ViewingLemmas.{same_stores, holds_anyway}
+use Rattle.sync_world.proofs.ViewingLemmas.{same_stores}
+use Rattle.rooms_val.proofs.Truths.{on_ok_anyway}
 use Rattle.sync_world.proofs.live.Live.presence.Goals as goal
 
 pub returns-in_ok-push-in-Ok-clause-step : goal.returns-in_ok-push-in-Ok-clause-step
@@ -33,6 +34,6 @@ returns-in_ok-push-in-Ok-clause-stores c =
     c.in-Some.ensures.found.1 c.index_mut.ensures.value c.presence.ensures.store
 
 pub returns-in-Err-clause-stores : goal.returns-in-Err-clause-stores
-returns-in-Err-clause-stores c = holds_anyway c.refused.result _
+returns-in-Err-clause-stores c = on_ok_anyway c.refused.result _
     (same_stores c.args.self.now c.in-Some.at c.index_mut.result.now (record c.index_mut.result.now { peer = c.presence.new.self })
     c.in-Some.ensures.found.1 c.index_mut.ensures.value c.presence.ensures.store)

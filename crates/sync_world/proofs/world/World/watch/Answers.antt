@@ -6,7 +6,8 @@ use Rattle.signal_core.specs.Watches.{IsFull}
 use Rattle.signal_core.specs.declared.watch.WatchFault.TheVariants as watch_fault
 use Rattle.live_views.specs.Watches.{Stand}
 use Rattle.sync_peer.specs.Viewing.{store_of}
-use Rattle.sync_world.proofs.ViewingLemmas.{had, set_has, one_changes, still_stands, on_err_so}
+use Rattle.sync_world.proofs.ViewingLemmas.{had, set_has, one_changes, still_stands}
+use Rattle.rooms_val.proofs.Truths.{on_err_so}
 use Rattle.sync_world.proofs.world.World.watch.Goals as goal
 
 pub returns-clause-ok : goal.returns-clause-ok

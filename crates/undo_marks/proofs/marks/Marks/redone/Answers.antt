@@ -1,7 +1,8 @@
 use Rattle.std.proofs.Common.{reverse, refl, ap, ◌∙◌, arith}
 use Rattle.undo_marks.specs.Kept.{diffs_of}
 use Rattle.undo_marks.specs.declared.marks.Begun.TheVariants as begun
-use Rattle.undo_marks.proofs.KeptLemmas.{rewinding_next, rewound, no_items}
+use Rattle.undo_marks.proofs.KeptLemmas.{rewinding_next, rewound}
+use Rattle.rooms_val.proofs.Truths.{no_items}
 use Rattle.undo_marks.proofs.marks.Marks.redone.Goals as goal
 
 pub marks-preserved : goal.marks-preserved
