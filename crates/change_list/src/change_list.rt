@@ -42,10 +42,12 @@ impl Model for ChangeList {
       live = changes_at s.entries.items (list_at s.links.lists 0);
       dead = changes_at s.entries.items (list_at s.links.lists 1);
       start = s.start;
-      spare = min (min s.links.spare (vec_capacity s.entries - vec_len s.entries)) (vec_capacity s.order - vec_len s.order);
+      spare = min (min s.links.spare (vec_capacity s.entries - vec_len s.entries))
+          (vec_capacity s.order - vec_len s.order);
     } };
 
-    ghost invariant = { λ s. IsWhole s.live.number s.dead.number s.free.number s.links.count s.links.lists s.entries.items s.order.items s.dead_count };
+    ghost invariant = { λ s. IsWhole s.live.number s.dead.number s.free.number s.links.count
+        s.links.lists s.entries.items s.order.items s.dead_count };
 }
 
 impl ChangeList {
@@ -106,9 +108,11 @@ impl ChangeList {
     /// no id changed.
     pub fn touch(&mut self, id: Text, clock: i64) -> Mem<()>
         requires { AreUpTo clock (listed self.old) }
-        ensures live { OnOk result (self.new.live ≡ without_id id self.old.live ++ record { id = id; clock = clock; live = true } ∷ []) }
+        ensures live { OnOk result (self.new.live ≡ without_id id self.old.live
+            ++ record { id = id; clock = clock; live = true } ∷ []) }
         ensures dead { OnOk result (self.new.dead ≡ without_id id self.old.dead) }
-        ensures err { OnErr result ((self.new.live ≡ self.old.live) × (self.new.dead ≡ self.old.dead)) }
+        ensures err { OnErr result
+            ((self.new.live ≡ self.old.live) × (self.new.dead ≡ self.old.dead)) }
         ensures start { self.new.start ≡ self.old.start }
 
         // With some to spare the call succeeds, and takes at most one from it; of a listed id it
@@ -152,7 +156,8 @@ impl ChangeList {
         requires live { IsListed self.old.live id.now }
         requires latest { AreUpTo clock (listed self.old) }
         ensures live { self.new.live ≡ without_id id.now self.old.live }
-        ensures dead { self.new.dead ≡ self.old.dead ++ record { id = id.now; clock = clock; live = false } ∷ [] }
+        ensures dead { self.new.dead
+            ≡ self.old.dead ++ record { id = id.now; clock = clock; live = false } ∷ [] }
         ensures start { self.new.start ≡ self.old.start }
         ensures spare { self.new.spare ≡ self.old.spare }
     {
@@ -179,7 +184,8 @@ impl ChangeList {
     /// of ids.
     pub fn prune(&mut self) -> bool
         ensures pruned { IsTrue result ↔ (most_dead < length self.old.dead) }
-        ensures start { self.new.start ≡ next_start most_dead kept_dead self.old.start self.old.dead }
+        ensures start { self.new.start
+            ≡ next_start most_dead kept_dead self.old.start self.old.dead }
         ensures dead { self.new.dead ≡ next_dead most_dead kept_dead self.old.start self.old.dead }
         ensures live { self.new.live ≡ self.old.live }
         ensures spare { self.old.spare ≤ self.new.spare }
@@ -221,7 +227,8 @@ impl ChangeList {
     ) -> Mem<Vec<Change>>
         ensures ok { IfOk result (λ found. AreSince (listed self.now) clock found.items) }
         ensures ticked { IfOk result (λ found. steps.new ≡ steps.old + (length found.items + 1)) }
-        ensures untold { OnErr result (steps.new ≤ steps.old + (length (filter (is_after clock) (listed self.now)) + 1)) }
+        ensures untold { OnErr result (steps.new
+            ≤ steps.old + (length (filter (is_after clock) (listed self.now)) + 1)) }
     {
         steps.tick();
         let mut found = Vec::new(alloc);

@@ -98,7 +98,8 @@ pub(crate) fn move_to(
     ensures sound { AreSound links.new.lists (length entries.new) }
     ensures count { links.new.count ≡ length entries.new }
     ensures spare { links.new.spare ≡ links.old.spare }
-    ensures entries { entries.new ≡ slice_set entries.old node (record (entry_at entries.old node) { clock = clock; live = live }) }
+    ensures entries { entries.new ≡ slice_set entries.old node
+        (record (entry_at entries.old node) { clock = clock; live = live }) }
 {
     links.unlink(node);
     let entry = &mut entries[node];
@@ -117,13 +118,19 @@ pub(crate) fn take_node(
     requires free { free.number < length links.old.lists }
     requires sound { AreSound links.old.lists (length entries.old.items) }
     requires count { links.old.count ≡ length entries.old.items }
-    ensures ok { IfOk result (IsTaken links.old.lists links.new.lists free.number entries.old.items entries.new.items change) }
-    ensures err { OnErr result ((links.new.lists ≡ links.old.lists) × (entries.new.items ≡ entries.old.items)) }
+    ensures ok { IfOk result (IsTaken links.old.lists links.new.lists free.number
+        entries.old.items entries.new.items change) }
+    ensures err { OnErr result
+        ((links.new.lists ≡ links.old.lists) × (entries.new.items ≡ entries.old.items)) }
     ensures count { links.new.count ≡ length entries.new.items }
-    ensures sure { 0 < links.old.spare → vec_len entries.old < vec_capacity entries.old → IsOk result }
+    ensures sure { 0 < links.old.spare → vec_len entries.old < vec_capacity entries.old
+        → IsOk result }
     ensures spare { links.old.spare ≤ links.new.spare + 1 }
-    ensures room { vec_capacity entries.old - vec_len entries.old ≤ vec_capacity entries.new - vec_len entries.new + 1 }
-    ensures kept { OnErr result ((links.old.spare ≤ links.new.spare) × (vec_capacity entries.old - vec_len entries.old ≤ vec_capacity entries.new - vec_len entries.new)) }
+    ensures room { vec_capacity entries.old - vec_len entries.old
+        ≤ vec_capacity entries.new - vec_len entries.new + 1 }
+    ensures kept { OnErr result ((links.old.spare ≤ links.new.spare)
+        × (vec_capacity entries.old - vec_len entries.old
+        ≤ vec_capacity entries.new - vec_len entries.new)) }
 {
     if let Some(node) = links.first(free) {
         links.unlink(node);
@@ -141,7 +148,8 @@ pub(crate) fn insert_node(order: &mut Vec<usize>, place: usize, node: usize)
     requires place { place ≤ vec_len order.old }
     requires room { vec_len order.old < vec_capacity order.old }
     ensures items { order.new.items ≡ insert order.old.items place node }
-    ensures room { vec_capacity order.old - vec_len order.old ≤ vec_capacity order.new - vec_len order.new + 1 }
+    ensures room { vec_capacity order.old - vec_len order.old
+        ≤ vec_capacity order.new - vec_len order.new + 1 }
 {
     let _ = order.insert(place, node);
 }

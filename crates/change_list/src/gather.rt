@@ -21,11 +21,17 @@ pub(crate) fn gather<L: Ledger>(
     steps: &mut Steps<L>,
 ) -> Mem<()>
     requires list { list.number < length links.now.lists }
-    requires made { (node : ℕ) → Contains (list_at links.now.lists list.number) node → node < length entries.now }
-    requires rising { HasRisingClocks (changes_at entries.now (list_at links.now.lists list.number)) }
-    ensures ok { OnOk result (found.new.items ≡ found.old.items ++ reverse (filter (is_after clock) (changes_at entries.now (list_at links.now.lists list.number)))) }
-    ensures ticked { OnOk result (steps.new ≡ steps.old + length (filter (is_after clock) (changes_at entries.now (list_at links.now.lists list.number)))) }
-    ensures untold { OnErr result (steps.new ≤ steps.old + length (filter (is_after clock) (changes_at entries.now (list_at links.now.lists list.number)))) }
+    requires made { (node : ℕ) → Contains (list_at links.now.lists list.number) node
+        → node < length entries.now }
+    requires rising { HasRisingClocks
+        (changes_at entries.now (list_at links.now.lists list.number)) }
+    ensures ok { OnOk result (found.new.items
+        ≡ found.old.items ++ reverse (filter (is_after clock)
+        (changes_at entries.now (list_at links.now.lists list.number)))) }
+    ensures ticked { OnOk result (steps.new ≡ steps.old + length (filter (is_after clock)
+        (changes_at entries.now (list_at links.now.lists list.number)))) }
+    ensures untold { OnErr result (steps.new ≤ steps.old + length (filter (is_after clock)
+        (changes_at entries.now (list_at links.now.lists list.number)))) }
 {
     let mut at = links.last(list);
     'back: while let Some(node) = at {

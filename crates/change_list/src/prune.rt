@@ -17,9 +17,11 @@ pub(crate) const KEPT_DEAD: usize = limits::KEPT_DEAD as usize;
 /// The clock of the change at a place of a list, counted from 0.
 pub(crate) fn clock_at(links: &Links, list: ListId, entries: &[Change], place: usize) -> i64
     requires list { list.number < length links.now.lists }
-    requires made { (node : ℕ) → Contains (list_at links.now.lists list.number) node → node < length entries.now }
+    requires made { (node : ℕ) → Contains (list_at links.now.lists list.number) node
+        → node < length entries.now }
     requires place { place < length (list_at links.now.lists list.number) }
-    ensures { result ≡ (slice_index_or (changes_at entries.now (list_at links.now.lists list.number)) place blank).clock }
+    ensures { result ≡ (slice_index_or
+        (changes_at entries.now (list_at links.now.lists list.number)) place blank).clock }
 {
     let mut at = links.first(list);
     'forward: for _ in 0..place {

@@ -16,9 +16,9 @@ pub const LONGEST_REPLY: usize = 67_108_864;
 ///
 /// # Errors
 ///
-/// `Refused` exactly if the text is no piece in UTF-8, isn't the piece that comes next, makes a text that is too long for the
-/// assembler, or completes one that is no room's message. `OutOfMemory` if memory was refused. Of the assembler nothing is
-/// said then.
+/// `Refused` exactly if the text is no piece in UTF-8, isn't the piece that comes next, makes a text that is too long for
+/// the assembler, or completes one that is no room's message. `OutOfMemory` if memory was refused. Of the assembler nothing
+/// is said then.
 ///
 /// Costs the text, and the message that it completes.
 pub fn hear(

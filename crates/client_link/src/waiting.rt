@@ -29,8 +29,8 @@ pub enum Heard {
     Idle,
 }
 
-/// Waits for the next message: takes what comes, up to the text that completes a message or is refused, the end of the link, or
-/// the 1,200th Idle. Pieces of a message that isn't whole then are kept by the assembler, for the next wait.
+/// Waits for the next message: takes what comes, up to the text that completes a message or is refused, the end of the link,
+/// or the 1,200th Idle. Pieces of a message that isn't whole then are kept by the assembler, for the next wait.
 ///
 /// Costs what it takes.
 ///
@@ -44,7 +44,8 @@ pub fn wait_for_message<K: Link>(
 ) -> Result<Heard, Stop>
     ensures faults_stay { K.faults link.old ≤ K.faults link.new }
     ensures failed { OnFailed result (K.faults link.old < K.faults link.new) }
-    ensures ends { Tells (Ends assembler.old result assembler.new) (K.told link.old) (K.told link.new) }
+    ensures ends { Tells (Ends assembler.old result assembler.new)
+        (K.told link.old) (K.told link.new) }
 {
     let mut idles = 0;
     'arrivals: loop {

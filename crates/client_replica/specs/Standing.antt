@@ -44,8 +44,8 @@ module _ {D : Type 0} where
   abbrev pub presence_of : Replica D → List ℕ → Bool
   presence_of r = is_presence (schema_tree r.schema)
 
-  -- a replica stands for a base and what is pending over it, if this says which records a store has, and has counted how many
-  -- edits name each id
+  -- a replica stands for a base and what is pending over it, where `records` says which records a store has: the replica's
+  -- parts make these up, and the replica's counts say how many of the pending edits name each id
   abbrev pub Stands : (D → Pairs) → model.Replica → Replica D → Type 0
   Stands records replica r =
       IsReplica (schema_tree r.schema) (records r.store) (map work_of r.works.items) r.stash r.others replica

@@ -22,7 +22,8 @@ use schema_core::Schema;
 use std::collections::VecDeque;
 use sync_msgs::{Action, DataEvent, Events};
 
-/// Whether each event commits the first work that is left then, and the works that they commit name ids of the document alone.
+/// Whether each event commits the first work that is left then, and the works that they commit name ids of the document
+/// alone.
 pub(crate) fn are_own(schema: &Schema, works: &VecDeque<Work>, events: &Events) -> bool
     ensures { result ≡ are_own (is_document (schema_tree schema.now))
         (map work_of works.now.items) events.now }
@@ -90,7 +91,8 @@ pub(crate) fn forget_first(names: &mut EditNames, works: &VecDeque<Work>, count:
 // Counts a work no more, where it is an edit.
 fn forget_work(names: &mut EditNames, work: Option<&Work>)
     ensures { (id : List ℕ) → count_at names.new id
-        ≡ count_at names.old id - once (pushed_diff (option_map work_of (option_copied work.entry))) id }
+        ≡ count_at names.old id - once
+        (pushed_diff (option_map work_of (option_copied work.entry))) id }
 {
     match work {
         Some(work) => match work {

@@ -51,7 +51,7 @@ pub(crate) fn replay_diff<D: DocStore, L: Ledger>(
     Ok(())
 }
 
-/// Replays the edits among the works from a place on, and answers what stood under the ids that they name.
+/// Replays the edits among the works from a place on, and returns what stood under the ids that they name.
 pub(crate) fn replay<D: DocStore, L: Ledger>(
     alloc: Global,
     schema: &Schema,

@@ -77,9 +77,14 @@ impl<D: DocStore> Replica<D> {
         }
     }
 
-    /// Does an edit, whose ids are the document's: its operations act as the step has it, and it is pending. Of a checked
-    /// edit each patch is known to act, and what it leaves isn't looked at again. Answers the diff that undoes what acted. It
-    /// costs what the diff names, at most a step for each operation. Where memory is refused the replica is as before.
+    /// Does an edit, whose ids are the document's: its operations act as the step has it, and it is pending. Returns the
+    /// diff that undoes what acted. An edit costs what the diff names, at most a step for each operation. Where memory is
+    /// refused the replica is as before.
+    ///
+    /// By `checked` the caller vouches for the diff. Where `checked` is true, the caller knows that each patch of the diff
+    /// acts: the patch leaves a record, and that record is admitted. A patch then acts wherever it leaves a record, and
+    /// those records aren't looked at again. Where the caller is wrong, nothing is said of what the replica stands for, or
+    /// of the diff that is returned. Where `checked` is false, the caller vouches for nothing, and each patch is checked.
     pub fn edit<L: Ledger>(
         &mut self,
         alloc: Global,
@@ -147,12 +152,17 @@ impl<D: DocStore> Replica<D> {
     }
 
     /// Takes what happened in the room: the events are done to the base in order, and each result ends the first pending
-    /// work. Where each commits the first work that is left then, and these name ids of the document alone, the store stays
-    /// and no step is counted; it costs what these works name, and where no work is left a look at the works alone. Else what
-    /// is shown is written under the ids that the events bring and under those that the ended works name. It counts at most one
-    /// step for each operation that the events bring, and two for each operation of the works that they end. For each of these
-    /// ids that pending edits name the works left are walked. It costs that, and where a presence changes a copy of the list of
-    /// them; never the document. Where memory is refused the replica is as before.
+    /// work. Where memory is refused the replica is as before.
+    ///
+    /// Where each event commits the first work that is left then, and these works name ids of the document alone, the store
+    /// stays, no step is counted, and no work left is walked. The scope of each id that the ended works name is looked up.
+    /// Where works are left, the ended works are also done to the base. Where no work is left, the stash and the counts are
+    /// dropped instead; they have ids of the ended works alone.
+    ///
+    /// Else what is shown is written under the ids that the events bring and under those that the ended works name. At most
+    /// one step is counted for each operation that the events bring, and two for each operation of the ended works. The
+    /// works left are walked for each of these ids that pending edits name. The events cost that. Where a presence changes,
+    /// they also cost a copy of the list of presences. They never cost the document.
     pub fn take_events<L: Ledger>(
         &mut self,
         alloc: Global,
@@ -208,8 +218,8 @@ impl<D: DocStore> Replica<D> {
 
     /// Takes what the room has: the base is brought to the room's by the diff, and the edits stay pending; the replica's own
     /// presence is pending last, if there is one. For `WipePresence` it costs what the diff names, with a walk over the
-    /// works for each of these ids that pending edits name; for `WipeAll` the base's document, the diff, and what is pending,
-    /// which is undone and replayed. Where memory is refused the replica is as before.
+    /// works for each of these ids that pending edits name; for `WipeAll` the base's document, the diff, and what is
+    /// pending, which is undone and replayed. Where memory is refused the replica is as before.
     pub fn take_snapshot<L: Ledger>(
         &mut self,
         alloc: Global,
@@ -271,7 +281,8 @@ impl<D: DocStore> Replica<D> {
         }
     }
 
-    // Brings the base to what a room has that remembers what changed since: what is shown is written where the diff changes it.
+    // Brings the base to what a room has that remembers what changed since: what is shown is written where the diff changes
+    // it.
     fn go_on<L: Ledger>(&mut self, alloc: Global, diff: &Diff, steps: &mut Steps<L>) -> Mem<()>
         ensures ok { OnOk result ((replica : model.Replica) → Stands D.records replica self.old
             → Stands D.records (record replica {
@@ -330,7 +341,8 @@ impl<D: DocStore> Replica<D> {
         }
     }
 
-    // Keeps a base that went on: of the ids that changed the stash holds those that a counted edit names. It takes no memory.
+    // Keeps a base that went on: of the ids that changed the stash holds those that a counted edit names. It takes no
+    // memory.
     fn settle(&mut self, base: NewBase)
         ensures stash { (diffs : List RecordOps) → AreCounted diffs self.old.names
             → NamesWithin diffs self.old.stash → (id : List ℕ) → value_at self.new.stash id
@@ -473,7 +485,8 @@ fn write_edit<D: DocStore, L: Ledger>(
     ensures few { OnOk result (length stash.new ≤ length stash.old + length diff.now) }
     ensures rising { OnOk result (AreRising stash.new) }
     ensures back { IfOk result (λ back. back
-        ≡ inverse_diff (admits_by checked (schema_tree schema.now)) (D.records store.old) diff.now) }
+        ≡ inverse_diff (admits_by checked (schema_tree schema.now))
+        (D.records store.old) diff.now) }
     ensures records { OnErr result (D.records store.new ≡ D.records store.old) }
     ensures err { OnErr result (stash.new ≡ stash.old) }
     ensures begun { D.begun store.new ≡ D.begun store.old }

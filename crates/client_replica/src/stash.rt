@@ -104,7 +104,8 @@ impl Stash {
     // Holds a record, or that there is none, under an id. Memory is refused only where it didn't hold the id, and then
     // nothing changes.
     fn put(&mut self, id: String, slot: Option<Val>) -> Mem<()>
-        ensures ok { OnOk result (self.new ≡ with_key self.old (string_bytes id) (maybe_data slot)) }
+        ensures ok { OnOk result (self.new
+            ≡ with_key self.old (string_bytes id) (maybe_data slot)) }
         ensures full { OnErr result (value_at self.old (string_bytes id) ≡ None) }
         ensures err { OnErr result (self.new ≡ self.old) }
     {
@@ -130,7 +131,8 @@ impl Stash {
 
     /// Takes what it holds under its first id.
     pub(crate) fn take_first(&mut self) -> Option<(String, Option<Val>)>
-        ensures some { IfSome result (λ p. self.old ≡ (string_bytes p.0, maybe_data p.1) ∷ self.new) }
+        ensures some { IfSome result (λ p. self.old
+            ≡ (string_bytes p.0, maybe_data p.1) ∷ self.new) }
         ensures none { IfNone result (self.old ≡ []) }
     {
         self.tree.pop_first()
@@ -264,7 +266,7 @@ impl Stash {
         self.insert(alloc, id, store.get(id))
     }
 
-    /// Holds what a store has under the ids that a diff names, where it doesn't hold them yet, and answers the ids that it
+    /// Holds what a store has under the ids that a diff names, where it doesn't hold them yet, and returns the ids that it
     /// holds now and didn't before. Where memory is refused nothing changes.
     pub(crate) fn keep_all<D: DocStore>(
         &mut self,

@@ -69,7 +69,8 @@ fn leads_to<'a>(records: &'a Fields, named: &Fields, id: &'a str) -> bool
 
 // Whether the id is that of a shape that leads to one of a set.
 fn is_copied(records: &Fields, named: &Fields, id: &str) -> bool
-    ensures { result ≡ (is_shape id.now && reaches (parents records.now) (has named.now) (length records.now) id.now) }
+    ensures { result ≡ (is_shape id.now
+        && reaches (parents records.now) (has named.now) (length records.now) id.now) }
 {
     is_shape(id) && leads_to(records, named, id)
 }

@@ -52,7 +52,8 @@ fn first_of(
     records: &Fields,
 ) -> Mem<Option<Text>>
     ensures { IfOk result (λ taken. taken
-        ≡ find (has records.now) (map (λ e. new_id kind.now prefix.now copied.now e.0) copied.now)) }
+        ≡ find (has records.now)
+        (map (λ e. new_id kind.now prefix.now copied.now e.0) copied.now)) }
 {
     'copied: for (id, _) in copied.as_slice() {
         let new = new_id(alloc, kind, prefix, copied, id.as_str())?;

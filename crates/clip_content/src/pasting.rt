@@ -54,7 +54,8 @@ fn put_shapes(
     requires dx { IsWithin greatest_whole target.now.dx }
     requires dy { IsWithin greatest_whole target.now.dy }
     ensures { OnOk result (diff.new
-        ≡ put_each diff.old (pasted_shapes (clip_tree clip.now) (target_tree target.now) indices.now)) }
+        ≡ put_each diff.old
+        (pasted_shapes (clip_tree clip.now) (target_tree target.now) indices.now)) }
 {
     'shapes: for (id, val) in clip.shapes.as_slice() {
         let new = new_shape(alloc, clip, target, id.as_str())?;

@@ -1,4 +1,5 @@
--- What a client can take back: its history of marks and of inverses of its own edits, and what undo, redo and bail make of it.
+-- What a client can take back: its history of marks and of inverses of its own edits, and what undo, redo and bail make of
+-- it.
 --
 -- An undo, a redo and a bail have two halves. The first gives the diff that is to be done to the document; the second makes
 -- the next history and redo list of the inverse of what acted.
@@ -112,12 +113,14 @@ after_undo back marks =
     let parts = parts_of marks.history in
     record { history = parts.kept; redos = record { diff = back; dropped = parts.dropped } ∷ marks.redos }
 
--- a history and a redo list without its newest entry: the inverse of what acted joins the history, and then the entry's marks
+-- a history and a redo list without its newest entry: the inverse of what acted joins the history, and then the entry's
+-- marks
 abbrev pub after_first_redo : RecordOps → List Item → List Redo → Marks
 after_first_redo back history [] = record { history = history; redos = [] }
 after_first_redo back history (redo ∷ redos) = record { history = history ++ inverse_items back ++ map mark redo.dropped; redos = redos }
 
--- the diff of a redo was done, of which this is the inverse: it joins the history unless it is empty, and then the dropped marks
+-- the diff of a redo was done, of which this is the inverse: it joins the history unless it is empty, and then the dropped
+-- marks
 abbrev pub after_redo : RecordOps → Marks → Marks
 after_redo back marks = after_first_redo back marks.history marks.redos
 

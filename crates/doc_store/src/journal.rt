@@ -38,11 +38,14 @@ pub(crate) fn write(
 ) -> Mem<Option<Val>>
     requires { IsUndoable (notes_of journal.old.items) slots.old }
     ensures old { IfOk result (λ r. maybe_data r ≡ value_at (present slots.old) id.now) }
-    ensures ok { OnOk result (present slots.new ≡ set_at (present slots.old) id.now (maybe_data record_)) }
+    ensures ok { OnOk result
+        (present slots.new ≡ set_at (present slots.old) id.now (maybe_data record_)) }
     ensures err { OnErr result (present slots.new ≡ present slots.old) }
     ensures undoable { IsUndoable (notes_of journal.new.items) slots.new }
-    ensures begun { begun (notes_of journal.new.items) slots.new ≡ begun (notes_of journal.old.items) slots.old }
-    ensures before { slots_before (notes_of journal.new.items) slots.new ≡ slots_before (notes_of journal.old.items) slots.old }
+    ensures begun { begun (notes_of journal.new.items) slots.new
+        ≡ begun (notes_of journal.old.items) slots.old }
+    ensures before { slots_before (notes_of journal.new.items) slots.new
+        ≡ slots_before (notes_of journal.old.items) slots.old }
 {
     let key = String::from_str(alloc, id)?;
     let before = slots.slot(alloc, id)?;
@@ -59,7 +62,8 @@ pub(crate) fn write_plain(
     record_: Option<Val>,
 ) -> Mem<Option<Val>>
     ensures old { IfOk result (λ r. maybe_data r ≡ value_at (present slots.old) id.now) }
-    ensures ok { OnOk result (present slots.new ≡ set_at (present slots.old) id.now (maybe_data record_)) }
+    ensures ok { OnOk result
+        (present slots.new ≡ set_at (present slots.old) id.now (maybe_data record_)) }
     ensures err { OnErr result (present slots.new ≡ present slots.old) }
     ensures full { AreFull slots.old → AreFull slots.new }
 {
@@ -96,9 +100,11 @@ pub(crate) fn forget_begin(journal: &mut Vec<Entry>)
 pub(crate) fn undo(journal: &mut Vec<Entry>, slots: &mut Slots)
     requires undoable { IsUndoable (notes_of journal.old.items) slots.old }
     requires one { begun (notes_of journal.old.items) slots.old ≢ [] }
-    ensures restored { begun (notes_of journal.old.items) slots.old ≡ present slots.new ∷ begun (notes_of journal.new.items) slots.new }
+    ensures restored { begun (notes_of journal.old.items) slots.old
+        ≡ present slots.new ∷ begun (notes_of journal.new.items) slots.new }
     ensures undoable { IsUndoable (notes_of journal.new.items) slots.new }
-    ensures before { slots_before (notes_of journal.new.items) slots.new ≡ slots_before (notes_of journal.old.items) slots.old }
+    ensures before { slots_before (notes_of journal.new.items) slots.new
+        ≡ slots_before (notes_of journal.old.items) slots.old }
 {
     'entries: while let Some(entry) = journal.pop() {
         match entry {
@@ -114,7 +120,8 @@ pub(crate) fn tidy(depth: usize, journal: &mut Vec<Entry>, slots: &mut Slots)
     requires full { AreFull (slots_before (notes_of journal.old.items) slots.old) }
     ensures records { present slots.new ≡ present slots.old }
     ensures idle { depth ≡ 0 → journal.new.items ≡ [] }
-    ensures busy { 0 < depth → begun (notes_of journal.new.items) slots.new ≡ begun (notes_of journal.old.items) slots.old }
+    ensures busy { 0 < depth → begun (notes_of journal.new.items) slots.new
+        ≡ begun (notes_of journal.old.items) slots.old }
     ensures undoable { IsUndoable (notes_of journal.new.items) slots.new }
     ensures full { AreFull (slots_before (notes_of journal.new.items) slots.new) }
 {
@@ -138,7 +145,8 @@ fn clear(journal: &mut Vec<Entry>, slots: &mut Slots)
 // Takes the slot away that was written, where it has no record.
 fn drop_written(slots: &mut Slots, entry: &Entry)
     ensures records { present slots.new ≡ present slots.old }
-    ensures noted { (older : List Note) → AreNoted (note_of entry.now ∷ older) slots.old → AreNoted older slots.new }
+    ensures noted { (older : List Note) → AreNoted (note_of entry.now ∷ older) slots.old
+        → AreNoted older slots.new }
 {
     match entry {
         Entry::Began => {}
@@ -150,7 +158,8 @@ fn drop_written(slots: &mut Slots, entry: &Entry)
 fn drop_empty(slots: &mut Slots, id: &str)
     ensures records { present slots.new ≡ present slots.old }
     ensures dropped { ¬ (value_at slots.new id.now ≡ Some None) }
-    ensures others { (q : List ℕ) → value_at slots.new q ≡ Some None → value_at slots.old q ≡ Some None }
+    ensures others { (q : List ℕ) → value_at slots.new q ≡ Some None
+        → value_at slots.old q ≡ Some None }
 {
     match slots.get(id) {
         Some(_) => {}

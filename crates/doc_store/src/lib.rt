@@ -2,8 +2,9 @@
 //!
 //! Contracts see a `DocStore` as a map of records (`records`, pairs whose ids rise), the maps at which its open
 //! transactions began (`begun`, the newest first), and a rest that no call changes (`rest`). `MapDoc` is the plain store:
-//! a tree of slots and a journal of what stood in them. `apply` is the step of a document under a schema, on any store, and `step_record` what it does to one record.
-//! The crate stands on `doc_model` for the step and its inverse, and on `schema_core` for what is admitted.
+//! a tree of slots and a journal of what stood in them. `apply` is the step of a document under a schema, on any store,
+//! and `step_record` what it does to one record. The crate stands on `doc_model` for the step and its inverse, and on
+//! `schema_core` for what is admitted.
 #![tactic(auto)]
 
 mod journal;

@@ -13,7 +13,8 @@ use std::marker::Model;
 use std::sync::ledger::Ledger;
 
 /// A store that holds records and nothing else. A look-up and a write cost a logarithm of the number of records, a write in
-/// a transaction also a copy of the record that stood there, and an abort what was written. Contracts see its records and those at which the open transactions began, newest first.
+/// a transaction also a copy of the record that stood there, and an abort what was written. Contracts see its records and
+/// those at which the open transactions began, newest first.
 #[derive(Drop)]
 pub struct MapDoc {
     slots: Slots,

@@ -80,11 +80,13 @@ impl Slots {
         Ok(ids)
     }
 
-    /// Sets the slot of an id, and answers the one before. Memory is refused only where there was none, and then nothing
+    /// Sets the slot of an id, and returns the one before. Memory is refused only where there was none, and then nothing
     /// changes.
     pub(crate) fn put(&mut self, id: String, slot: Slot) -> Mem<Option<Slot>>
-        ensures old { IfOk result (λ s. option_map maybe_data s ≡ value_at self.old (string_bytes id)) }
-        ensures ok { OnOk result (self.new ≡ with_key self.old (string_bytes id) (maybe_data slot)) }
+        ensures old { IfOk result (λ s. option_map maybe_data s
+            ≡ value_at self.old (string_bytes id)) }
+        ensures ok { OnOk result
+            (self.new ≡ with_key self.old (string_bytes id) (maybe_data slot)) }
         ensures full { OnErr result (value_at self.old (string_bytes id) ≡ None) }
         ensures err { OnErr result (self.new ≡ self.old) }
     {
@@ -95,7 +97,7 @@ impl Slots {
         }
     }
 
-    /// Takes the slot of an id away, and answers it.
+    /// Takes the slot of an id away, and returns it.
     pub(crate) fn take(&mut self, id: &str) -> Option<Slot>
         ensures old { option_map maybe_data result ≡ value_at self.old id.now }
         ensures rest { self.new ≡ without_key self.old id.now }

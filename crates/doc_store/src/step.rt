@@ -19,9 +19,14 @@ use std::alloc::Global;
 use std::sync::ledger::Ledger;
 
 /// Applies a diff: a put acts always, a remove where the record is there, and a patch where it leaves a record that the
-/// schema admits; where the diff is checked, wherever it leaves a record. Answers the diff that undoes what acted. It counts
-/// at most a step for each operation. `TooNested` exactly where 16 transactions are open, or `OutOfMemory`; then the records
-/// are as before.
+/// schema admits.
+///
+/// `checked` says that the diff was looked at before; it asks for no check. Where `checked` is true, the caller vouches that
+/// the schema admits each record that a patch of the diff leaves. `apply` then doesn't look at these records again, and a
+/// patch acts wherever it leaves a record.
+///
+/// Returns the diff that undoes what acted. It counts at most a step for each operation. `TooNested` exactly where 16 or
+/// more transactions are open, or `OutOfMemory`; then the records are as before.
 pub fn apply<D: DocStore, L: Ledger>(
     alloc: Global,
     store: &mut D,
@@ -30,8 +35,10 @@ pub fn apply<D: DocStore, L: Ledger>(
     diff: &Diff,
     steps: &mut Steps<L>,
 ) -> Result<Diff, TxnFault>
-    ensures ok { OnOk result (D.records store.new ≡ step (admits_by checked (schema_tree schema.now)) (D.records store.old) diff.now) }
-    ensures back { IfOk result (λ back. back ≡ inverse_diff (admits_by checked (schema_tree schema.now)) (D.records store.old) diff.now) }
+    ensures ok { OnOk result (D.records store.new
+        ≡ step (admits_by checked (schema_tree schema.now)) (D.records store.old) diff.now) }
+    ensures back { IfOk result (λ back. back ≡ inverse_diff
+        (admits_by checked (schema_tree schema.now)) (D.records store.old) diff.now) }
     ensures nested { (result ≡ Err TxnFault.TooNested) ↔ (MOST_OPEN ≤ length (D.begun store.old)) }
     ensures err { OnErr result (D.records store.new ≡ D.records store.old) }
     ensures begun { D.begun store.new ≡ D.begun store.old }
@@ -51,7 +58,8 @@ pub fn apply<D: DocStore, L: Ledger>(
     }
 }
 
-// The step, operation by operation.
+// The step, operation by operation. Where `checked` is true, the caller vouches that the schema admits each record that a
+// patch of the diff leaves, and these records aren't looked at again.
 fn apply_each<D: DocStore, L: Ledger>(
     alloc: Global,
     store: &mut D,
@@ -60,8 +68,10 @@ fn apply_each<D: DocStore, L: Ledger>(
     diff: &Diff,
     steps: &mut Steps<L>,
 ) -> Mem<Diff>
-    ensures ok { OnOk result (D.records store.new ≡ step (admits_by checked (schema_tree schema.now)) (D.records store.old) diff.now) }
-    ensures back { IfOk result (λ back. back ≡ inverse_diff (admits_by checked (schema_tree schema.now)) (D.records store.old) diff.now) }
+    ensures ok { OnOk result (D.records store.new
+        ≡ step (admits_by checked (schema_tree schema.now)) (D.records store.old) diff.now) }
+    ensures back { IfOk result (λ back. back ≡ inverse_diff
+        (admits_by checked (schema_tree schema.now)) (D.records store.old) diff.now) }
     ensures begun { D.begun store.new ≡ D.begun store.old }
     ensures rest { D.rest store.new ≡ D.rest store.old }
     ensures ticks { steps.new ≤ steps.old + length diff.now }
@@ -74,7 +84,8 @@ fn apply_each<D: DocStore, L: Ledger>(
     Ok(back)
 }
 
-// Does one operation, where it acts, and answers what undoes it.
+// Does one operation, where it acts, and returns what undoes it. Where `checked` is true, the caller vouches that the schema
+// admits the record that a patch leaves, and that record isn't looked at again.
 fn apply_one<D: DocStore, L: Ledger>(
     alloc: Global,
     store: &mut D,
@@ -84,8 +95,12 @@ fn apply_one<D: DocStore, L: Ledger>(
     op: &RecordOp,
     steps: &mut Steps<L>,
 ) -> Mem<Option<RecordOp>>
-    ensures ok { OnOk result (D.records store.new ≡ step_at (admits_by checked (schema_tree schema.now)) (D.records store.old) id.now (change_of op.now)) }
-    ensures back { IfOk result (λ undo. maybe_change undo ≡ inverse_of_op (admits_by checked (schema_tree schema.now)) (D.records store.old) id.now (change_of op.now)) }
+    ensures ok { OnOk result (D.records store.new
+        ≡ step_at (admits_by checked (schema_tree schema.now)) (D.records store.old) id.now
+        (change_of op.now)) }
+    ensures back { IfOk result (λ undo. maybe_change undo
+        ≡ inverse_of_op (admits_by checked (schema_tree schema.now)) (D.records store.old) id.now
+        (change_of op.now)) }
     ensures begun { D.begun store.new ≡ D.begun store.old }
     ensures rest { D.rest store.new ≡ D.rest store.old }
     ensures ticks { steps.new ≤ steps.old + 1 }
@@ -103,8 +118,12 @@ fn apply_one<D: DocStore, L: Ledger>(
 }
 
 /// What an operation leaves of the record under an id, or of the lack of one: a record or none. `None` exactly where the
-/// operation is passed over, as a remove of no record, and a patch that leaves no record that the schema admits, or none at
-/// all where it is checked. It costs the record and the operation.
+/// operation is passed over, as a remove of no record, and a patch that leaves no record that the schema admits. It costs
+/// the record and the operation.
+///
+/// `checked` says that the operation was looked at before; it asks for no check. Where `checked` is true, the caller vouches
+/// that the schema admits the record that a patch leaves. `step_record` then doesn't look at that record again, and a patch
+/// is passed over only where it leaves no record at all.
 pub fn step_record(
     alloc: Global,
     schema: &Schema,
@@ -113,7 +132,9 @@ pub fn step_record(
     record_: Option<&Val>,
     op: &RecordOp,
 ) -> Mem<Option<Option<Val>>>
-    ensures { IfOk result (λ left. option_map maybe_data left ≡ left_on (admits_by checked (schema_tree schema.now)) id.now (change_of op.now) (maybe_data (option_copied record_.entry))) }
+    ensures { IfOk result (λ left. option_map maybe_data left
+        ≡ left_on (admits_by checked (schema_tree schema.now)) id.now (change_of op.now)
+        (maybe_data (option_copied record_.entry))) }
 {
     let after = apply_record(alloc, record_, op)?;
     if acts(schema, checked, id, record_, &after, op) {
@@ -123,7 +144,8 @@ pub fn step_record(
     }
 }
 
-// Whether an operation acts that makes one record of another.
+// Whether an operation acts that makes one record of another. Where `checked` is true, the caller vouches that the schema
+// admits the record that a patch leaves, and that record isn't looked at again.
 fn acts(
     schema: &Schema,
     checked: bool,
@@ -133,7 +155,8 @@ fn acts(
     op: &RecordOp,
 ) -> bool
     requires { maybe_data after.now ≡ raw (change_of op.now) (maybe_data (option_copied before)) }
-    ensures { result ≡ acts_on (admits_by checked (schema_tree schema.now)) id.now (change_of op.now) (maybe_data (option_copied before.entry)) }
+    ensures { result ≡ acts_on (admits_by checked (schema_tree schema.now)) id.now
+        (change_of op.now) (maybe_data (option_copied before.entry)) }
 {
     match op {
         RecordOp::Put(_) => true,

@@ -6,7 +6,8 @@ use rooms_val::{Mem, Steps, Text, TxnFault, Val};
 use std::alloc::Global;
 use std::sync::ledger::Ledger;
 
-/// How many transactions of a store may be open.
+/// How many transactions of one store may be open at a time. A transaction counts from its `begin` until its `commit` or
+/// `abort`; so does the one that `apply` begins for a diff. Where so many or more are open, `begin` and `apply` are refused.
 pub const MOST_OPEN: usize = 16;
 
 /// Records by id, with transactions that nest up to 16 deep.
@@ -31,14 +32,15 @@ pub trait DocStore {
 
     /// The record of an id. `None` exactly where there is none.
     fn get(&self, id: &str) -> Option<&Val>
-        ensures found { option_map (λ v. data_of v.now) result ≡ value_at (records self.now) id.now }
+        ensures found { option_map (λ v. data_of v.now) result
+            ≡ value_at (records self.now) id.now }
         ensures sound { IsSound (map_data (members_of (records self.now))) };
 
     /// The ids of the records, in order.
     fn ids(&self, alloc: Global) -> Mem<Vec<Text>>
         ensures { IfOk result (λ ids. ids.items ≡ map (λ p. p.0) (records self.now)) };
 
-    /// Sets the record of an id, or takes it away, and answers the one before. It counts one step. Where memory is
+    /// Sets the record of an id, or takes it away, and returns the one before. It counts one step. Where memory is
     /// refused the records are as before, and at most one step is counted.
     fn write<L: Ledger>(
         &mut self,
@@ -48,15 +50,16 @@ pub trait DocStore {
         steps: &mut Steps<L>,
     ) -> Mem<Option<Val>>
         ensures old { IfOk result (λ r. maybe_data r ≡ value_at (records self.old) id.now) }
-        ensures ok { OnOk result (records self.new ≡ set_at (records self.old) id.now (maybe_data record_)) }
+        ensures ok { OnOk result
+            (records self.new ≡ set_at (records self.old) id.now (maybe_data record_)) }
         ensures err { OnErr result (records self.new ≡ records self.old) }
         ensures ticked { OnOk result (steps.new ≡ steps.old + 1) }
         ensures untold { OnErr result (steps.new ≤ steps.old + 1) }
         ensures begun { begun self.new ≡ begun self.old }
         ensures rest { rest self.new ≡ rest self.old };
 
-    /// Opens a transaction. `TooNested` exactly where 16 are open, or `OutOfMemory`; then none more is open. It copies no
-    /// record.
+    /// Opens a transaction. `TooNested` exactly where 16 or more are open, or `OutOfMemory`; then none more is open. It
+    /// copies no record.
     fn begin(&mut self) -> Result<(), TxnFault>
         ensures ok { OnOk result (begun self.new ≡ records self.old ∷ begun self.old) }
         ensures nested { (result ≡ Err TxnFault.TooNested) ↔ (MOST_OPEN ≤ length (begun self.old)) }

@@ -9,8 +9,8 @@ use std::alloc::Global;
 use std::collections::BTreeMap;
 use std::marker::Model;
 
-/// How many pending edits name each id. A look-up and a change cost a logarithm of their number. Contracts see the ids that
-/// are named, which rise, each with its count.
+/// How many pending edits name each id. An id that no edit names isn't held, so that no count of 0 is kept. Contracts see
+/// the ids that are named, which rise, each with its count.
 #[derive(Drop)]
 pub struct EditNames {
     tree: BTreeMap<String, u64>,
@@ -38,7 +38,7 @@ impl EditNames {
         }
     }
 
-    /// Whether an edit names an id.
+    /// Whether an edit names an id. It costs a logarithm of the ids that are held.
     pub fn has(&self, id: &str) -> bool
         ensures held { result ≡ is_some (value_at self.now id.now) }
         ensures counted { IsTrue result ↔ (0 < count_at self.now id.now) }
@@ -116,8 +116,9 @@ impl EditNames {
         }
     }
 
-    /// Counts each id that a diff names once more. Where memory is refused, or a count would pass the greatest number of
-    /// 64 bits, each count is as before.
+    /// Counts each id that a diff names once more. An id that isn't held takes memory. Any other count rises in place. Each
+    /// id of the diff costs a logarithm of the ids that are held. Where memory is refused, or a count would pass the
+    /// greatest number of 64 bits, each count is as before.
     pub fn add(&mut self, alloc: Global, diff: &Diff) -> Mem<()>
         ensures ok { OnOk result ((id : List ℕ)
             → count_at self.new id ≡ count_at self.old id + once diff.now id) }
@@ -138,7 +139,9 @@ impl EditNames {
         Ok(())
     }
 
-    /// Counts each id that a diff names once less. It takes no memory.
+    /// Counts each id that a diff names once less. A count above 1 falls in place. An id whose count is 1 is held no more.
+    /// An id whose count is 0 already isn't held, and stays so. `remove` takes no memory. Each id of the diff costs a
+    /// logarithm of the ids that are held.
     pub fn remove(&mut self, diff: &Diff)
         ensures { (id : List ℕ)
             → count_at self.new id ≡ count_at self.old id - once diff.now id }

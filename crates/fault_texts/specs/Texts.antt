@@ -1,4 +1,4 @@
--- The text of each fault. Want of memory has none.
+-- The text of each fault. `OutOfMemory` alone has none.
 use Rattle.std.specs.Prelude.{ℕ, List, [], ◌∷◌, ◌++◌, codes, Option, Some, None, option_map}
 use Rattle.rooms_val.specs.declared.fault.ValFault.{ValFault}
 use Rattle.rooms_val.specs.declared.fault.ValFault.TheVariants as val

@@ -83,7 +83,8 @@ impl FieldIndex {
     /// Memory was refused, and nothing changed.
     pub fn set(&mut self, alloc: Global, id: &str, record_: Option<&Val>) -> Mem<()>
         ensures ok { OnOk result (self.new ≡ record self.old {
-          values = with_record self.old.type_name self.old.field self.old.values id.now (maybe_data record_.entry);
+          values = with_record self.old.type_name self.old.field self.old.values id.now
+              (maybe_data record_.entry);
         }) }
         ensures err { OnErr result (self.new ≡ self.old) }
     {

@@ -17,7 +17,8 @@ pub fn index_follows_writes()
 /// What asks for a value of a field, or for a greater number, is answered by the index of the field alone.
 pub fn queries_by_index()
     ensures equal { (m : Pairs) (type name : List ℕ) (value : Val)
-        → ids_meeting m type (query.Eq name value) ≡ ids_equal (data_of value) (indexed type name m) }
+        → ids_meeting m type (query.Eq name value)
+        ≡ ids_equal (data_of value) (indexed type name m) }
     ensures greater { (m : Pairs) (type name : List ℕ) (number : ℤ)
         → ids_meeting m type (query.Gt name number) ≡ ids_greater number (indexed type name m) }
 {}

@@ -19,12 +19,14 @@ raw_after (Some c) r = raw c r
 abbrev pub PatchesByKey : Type 0
 PatchesByKey = (p : Patch) (f : Pairs) (k : List ℕ) → value_at (patched (edits_of p) f) k ≡ value_after (value_at p k) (value_at f k)
 
--- the patch that brings a map back has at each key what undoes the key's operation, and nothing where that does nothing; its keys rise
+-- the patch that brings a map back has at each key what undoes the key's operation, and nothing where that does nothing; its
+-- keys rise
 abbrev pub InvertsByKey : Type 0
 InvertsByKey = (p : Patch) (f : Pairs) → AreRising (inverted (edits_of p) f)
     × ((k : List ℕ) → value_at (inverted (edits_of p) f) k ≡ option_and_then (λ e. undo e (value_at f k)) (value_at p k))
 
--- the one patch that does two in turn has at each key the one operation that does both of the key; its keys rise as those of the first
+-- the one patch that does two in turn has at each key the one operation that does both of the key; its keys rise as those of
+-- the first
 abbrev pub ComposesByKey : Type 0
 ComposesByKey = (p q : Patch) → (AreRising p → AreRising (both (edits_of q) p))
     × ((k : List ℕ) → value_at (both (edits_of q) p) k ≡ edit_after (value_at q k) (value_at p k))

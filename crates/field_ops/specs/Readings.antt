@@ -19,7 +19,8 @@ append_of name (value.text s) (value.whole (pos n)) = if nat_lt n (2 ^ 32) then 
 append_of name _ _ = None
 
 abbrev mutual
-  -- the operation on a value: `["put",v]`, `["patch",{..}]`, `["append",list,offset]`, `["append",text,offset]` or `["delete"]`
+  -- the operation on a value: `["put",v]`, `["patch",{..}]`, `["append",list,offset]`, `["append",text,offset]` or
+  -- `["delete"]`
   pub value_op_of_data : Data → Option ValueOpTree
   value_op_of_data (value.list (value.item (value.text name) value.no_items)) = if_named (codes "delete") name (Some edit.delete)
   value_op_of_data (value.list (value.item (value.text name) (value.item (value.map ms) value.no_items))) =

@@ -35,7 +35,8 @@ pub fn apply_object(alloc: Global, map: &Fields, diff: &ObjectDiff) -> Mem<Field
 /// The record under an operation, or none where there is none after it. Where the patched record is no map it stays as
 /// it is.
 pub fn apply_record(alloc: Global, before: Option<&Val>, op: &RecordOp) -> Mem<Option<Val>>
-    ensures { IfOk result (λ r. maybe_data r ≡ raw (change_of op.now) (maybe_data (option_copied before.entry))) }
+    ensures { IfOk result
+        (λ r. maybe_data r ≡ raw (change_of op.now) (maybe_data (option_copied before.entry))) }
 {
     match op {
         RecordOp::Put(val) => Ok(Some(val.copy(alloc)?)),
@@ -50,7 +51,8 @@ pub fn apply_record(alloc: Global, before: Option<&Val>, op: &RecordOp) -> Mem<O
 /// The value under a patch. What is no map stays as it is.
 #[cycle(apply)]
 pub(crate) fn patched_val(alloc: Global, val: &Val, diff: &ObjectDiff) -> Mem<Val>
-    ensures { IfOk result (λ v. data_of v ≡ on_map (λ f. patched (edits_of diff.now) f) (data_of val.now)) }
+    ensures { IfOk result
+        (λ v. data_of v ≡ on_map (λ f. patched (edits_of diff.now) f) (data_of val.now)) }
 {
     match val {
         Val::Map(fields) => Ok(Val::Map(apply_object(alloc, fields, diff)?)),
@@ -72,7 +74,8 @@ fn set(alloc: Global, fields: &mut Fields, key: &Text, val: Option<Val>) -> Mem<
 // What an operation makes of the value at a key, or of none.
 #[cycle(apply)]
 fn edited(alloc: Global, old: Option<&Val>, op: &ValueOp) -> Mem<Option<Val>>
-    ensures { IfOk result (λ v. maybe_data v ≡ edited (edit_of op.now) (maybe_data (option_copied old.entry))) }
+    ensures { IfOk result
+        (λ v. maybe_data v ≡ edited (edit_of op.now) (maybe_data (option_copied old.entry))) }
 {
     match op {
         ValueOp::Put(val) => Ok(Some(val.copy(alloc)?)),

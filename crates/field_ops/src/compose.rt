@@ -21,7 +21,8 @@ use std::alloc::Global;
 pub fn then(alloc: Global, first: &RecordOp, second: &RecordOp) -> Mem<RecordOp>
     requires first_plain { has_append (change_of first.now) ≡ false }
     requires second_plain { has_append (change_of second.now) ≡ false }
-    ensures { IfOk result (λ op. change_of op ≡ joined.in_turn (change_of first.now) (change_of second.now)) }
+    ensures { IfOk result
+        (λ op. change_of op ≡ joined.in_turn (change_of first.now) (change_of second.now)) }
 {
     match second {
         RecordOp::Put(_) => Ok(second.copy(alloc)?),
@@ -32,7 +33,8 @@ pub fn then(alloc: Global, first: &RecordOp, second: &RecordOp) -> Mem<RecordOp>
 
 // What a second patch makes of a first operation.
 fn patched_op(alloc: Global, first: &RecordOp, diff: &ObjectDiff) -> Mem<RecordOp>
-    ensures { IfOk result (λ op. change_of op ≡ joined.patched_change diff.now (change_of first.now)) }
+    ensures { IfOk result
+        (λ op. change_of op ≡ joined.patched_change diff.now (change_of first.now)) }
 {
     match first {
         RecordOp::Put(val) => Ok(RecordOp::Put(patched_val(alloc, val, diff)?)),
@@ -61,7 +63,8 @@ fn both(alloc: Global, first: &ObjectDiff, second: &ObjectDiff) -> Mem<ObjectDif
 // What a key's operation becomes, where the second patch perhaps names the key.
 #[cycle(then)]
 fn both_at(alloc: Global, first: Option<&ValueOp>, second: Option<&ValueOp>) -> Mem<Option<ValueOp>>
-    ensures { IfOk result (λ op. maybe_edit op ≡ joined.edit_after (maybe_edit (option_copied second.entry)) (maybe_edit (option_copied first.entry))) }
+    ensures { IfOk result (λ op. maybe_edit op ≡ joined.edit_after
+        (maybe_edit (option_copied second.entry)) (maybe_edit (option_copied first.entry))) }
 {
     match second {
         Some(later) => match first {
@@ -78,7 +81,8 @@ fn both_at(alloc: Global, first: Option<&ValueOp>, second: Option<&ValueOp>) -> 
 // The operation on a value that does both in turn.
 #[cycle(then)]
 fn after(alloc: Global, first: &ValueOp, second: &ValueOp) -> Mem<ValueOp>
-    ensures { IfOk result (λ op. edit_of op ≡ joined.after (edit_of second.now) (edit_of first.now)) }
+    ensures { IfOk result
+        (λ op. edit_of op ≡ joined.after (edit_of second.now) (edit_of first.now)) }
 {
     let ValueOp::Patch(diff) = second else {
         return Ok(second.copy(alloc)?);

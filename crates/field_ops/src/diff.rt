@@ -82,7 +82,7 @@ impl Diff {
         entries::get(&self.entries, id)
     }
 
-    /// Sets the operation on the record of an id, and answers the one before. Where memory is refused the diff is as
+    /// Sets the operation on the record of an id, and returns the one before. Where memory is refused the diff is as
     /// before. An id beyond all others is added at the cost of one comparison.
     pub fn put(&mut self, id: Text, op: RecordOp) -> Mem<Option<RecordOp>>
         ensures old { IfOk result (λ o. option_map change_of o ≡ value_at self.old id) }
@@ -110,7 +110,8 @@ impl Diff {
     /// `OutOfMemory`.
     pub(crate) fn read(alloc: Global, val: &Val) -> Result<Diff, OpFault>
         ensures found { IfOk result (λ d. data_of val.now ≡ diff_data d) }
-        ensures only { result ≡ Err OpFault.WrongKind → (cs : RecordOps) → IsSoundDiff cs → ¬ (data_of val.now ≡ diff_data cs) }
+        ensures only { result ≡ Err OpFault.WrongKind → (cs : RecordOps) → IsSoundDiff cs
+            → ¬ (data_of val.now ≡ diff_data cs) }
     {
         match val {
             Val::Map(fields) => Ok(Diff::read_fields(alloc, fields)?),
@@ -120,7 +121,8 @@ impl Diff {
 
     fn read_fields(alloc: Global, fields: &Fields) -> Result<Diff, OpFault>
         ensures found { IfOk result (λ d. fields.now ≡ diff_pairs d) }
-        ensures only { result ≡ Err OpFault.WrongKind → (cs : RecordOps) → IsSoundDiff cs → ¬ (fields.now ≡ diff_pairs cs) }
+        ensures only { result ≡ Err OpFault.WrongKind → (cs : RecordOps) → IsSoundDiff cs
+            → ¬ (fields.now ≡ diff_pairs cs) }
     {
         let mut diff = Diff::new(alloc);
         for (id, val) in fields.as_slice() {

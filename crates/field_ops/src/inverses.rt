@@ -17,7 +17,8 @@ use std::alloc::Global;
 /// The operation that brings a record back, or its absence, after another. `None` exactly for a patch or remove without
 /// a record.
 pub fn inverse(alloc: Global, before: Option<&Val>, op: &RecordOp) -> Mem<Option<RecordOp>>
-    ensures { IfOk result (λ u. maybe_change u ≡ inverted.inverse (change_of op.now) (maybe_data (option_copied before.entry))) }
+    ensures { IfOk result (λ u. maybe_change u
+        ≡ inverted.inverse (change_of op.now) (maybe_data (option_copied before.entry))) }
 {
     match op {
         RecordOp::Put(_) => match before {
@@ -61,7 +62,8 @@ fn inverse_object(alloc: Global, map: &Fields, diff: &ObjectDiff) -> Mem<ObjectD
 // The operation that brings a key's value back, or its absence. `None` exactly where the operation does nothing.
 #[cycle(inverse)]
 fn undo(alloc: Global, old: Option<&Val>, op: &ValueOp) -> Mem<Option<ValueOp>>
-    ensures { IfOk result (λ u. maybe_edit u ≡ inverted.undo (edit_of op.now) (maybe_data (option_copied old.entry))) }
+    ensures { IfOk result (λ u. maybe_edit u
+        ≡ inverted.undo (edit_of op.now) (maybe_data (option_copied old.entry))) }
 {
     let Some(val) = old else {
         return match op {
@@ -84,7 +86,8 @@ fn undo(alloc: Global, old: Option<&Val>, op: &ValueOp) -> Mem<Option<ValueOp>>
 // A patch takes effect on a map alone. Its inverse is kept also where it is empty.
 #[cycle(inverse)]
 fn undo_patch(alloc: Global, val: &Val, diff: &ObjectDiff) -> Mem<Option<ValueOp>>
-    ensures { IfOk result (λ u. maybe_edit u ≡ inverted.of_map (λ f. inverted.inverted (edits_of diff.now) f) (data_of val.now)) }
+    ensures { IfOk result (λ u. maybe_edit u
+        ≡ inverted.of_map (λ f. inverted.inverted (edits_of diff.now) f) (data_of val.now)) }
 {
     match val {
         Val::Map(fields) => Ok(Some(ValueOp::Patch(inverse_object(alloc, fields, diff)?))),
@@ -119,7 +122,8 @@ fn undo_append_text(alloc: Global, val: &Val, offset: u32) -> Mem<Option<ValueOp
 }
 
 fn undo_longer(alloc: Global, items: &Vals, offset: u32) -> Mem<Option<ValueOp>>
-    ensures { IfOk result (λ u. maybe_edit u ≡ inverted.of_list offset (list (items_of items.now))) }
+    ensures { IfOk result
+        (λ u. maybe_edit u ≡ inverted.of_list offset (list (items_of items.now))) }
 {
     if items.len() == offset as usize {
         Ok(Some(ValueOp::Put(Val::List(items.copy(alloc)?))))

@@ -89,7 +89,7 @@ impl ObjectDiff {
         entries::get(&self.entries, key)
     }
 
-    /// Sets the operation on a key, and answers the one before. Where memory is refused the patch is as before. A key
+    /// Sets the operation on a key, and returns the one before. Where memory is refused the patch is as before. A key
     /// beyond all others is added at the cost of one comparison.
     pub fn put(&mut self, key: Text, op: ValueOp) -> Mem<Option<ValueOp>>
         ensures old { IfOk result (λ o. option_map edit_of o ≡ value_at self.old key) }
@@ -130,7 +130,8 @@ impl ObjectDiff {
     #[cycle(read)]
     pub(crate) fn read(alloc: Global, fields: &Fields) -> Result<ObjectDiff, OpFault>
         ensures found { IfOk result (λ p. fields.now ≡ patch_pairs p) }
-        ensures only { result ≡ Err OpFault.WrongKind → (p : Patch) → IsSoundPatch p → ¬ (fields.now ≡ patch_pairs p) }
+        ensures only { result ≡ Err OpFault.WrongKind → (p : Patch) → IsSoundPatch p
+            → ¬ (fields.now ≡ patch_pairs p) }
     {
         let mut diff = ObjectDiff::new(alloc);
         for (key, val) in fields.as_slice() {

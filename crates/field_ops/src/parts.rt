@@ -26,7 +26,8 @@ pub fn with(mut parts: Vals, val: Val) -> Mem<Vals>
 
 /// What follows the name in a list that begins with it. `None` exactly where the value is no such list.
 pub fn arguments<'a>(val: &'a Val, name: &str) -> Option<&'a [Val]>
-    ensures found { IfSome result (λ args. data_of val.now ≡ wire.named name.now (items_of (items_view args.now))) }
+    ensures found { IfSome result
+        (λ args. data_of val.now ≡ wire.named name.now (items_of (items_view args.now))) }
     ensures only { IfNone result ((ds : Items) → ¬ (data_of val.now ≡ wire.named name.now ds)) }
 {
     let Val::List(items) = val else {
@@ -46,7 +47,8 @@ pub fn arguments<'a>(val: &'a Val, name: &str) -> Option<&'a [Val]>
 /// The one value of a slice. `WrongKind` exactly where there are none or several.
 pub fn single(vals: &[Val]) -> Result<&Val, OpFault>
     ensures found { IfOk result (λ v. items_view vals.now ≡ data_of v.now ∷ []) }
-    ensures only { IfErr result (λ e. (e ≡ OpFault.WrongKind) × ((d : Data) → ¬ (items_view vals.now ≡ d ∷ []))) }
+    ensures only { IfErr result
+        (λ e. (e ≡ OpFault.WrongKind) × ((d : Data) → ¬ (items_view vals.now ≡ d ∷ []))) }
 {
     let Some((first, rest)) = vals.split_first() else {
         return Err(OpFault::WrongKind);

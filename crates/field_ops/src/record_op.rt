@@ -46,7 +46,8 @@ impl RecordOp {
     /// operation, or `OutOfMemory`.
     pub(crate) fn read(alloc: Global, val: &Val) -> Result<RecordOp, OpFault>
         ensures found { IfOk result (λ op. data_of val.now ≡ change_data (change_of op)) }
-        ensures only { result ≡ Err OpFault.WrongKind → (c : RecordOpTree) → IsSoundChange c → ¬ (data_of val.now ≡ change_data c) }
+        ensures only { result ≡ Err OpFault.WrongKind → (c : RecordOpTree) → IsSoundChange c
+            → ¬ (data_of val.now ≡ change_data c) }
     {
         if let Some(args) = arguments(val, "remove") {
             return if args.is_empty() {

@@ -86,7 +86,8 @@ impl ValueOp {
     #[cycle(read)]
     pub(crate) fn read(alloc: Global, val: &Val) -> Result<ValueOp, OpFault>
         ensures found { IfOk result (λ op. data_of val.now ≡ edit_data (edit_of op)) }
-        ensures only { result ≡ Err OpFault.WrongKind → (e : ValueOpTree) → IsSoundEdit e → ¬ (data_of val.now ≡ edit_data e) }
+        ensures only { result ≡ Err OpFault.WrongKind → (e : ValueOpTree) → IsSoundEdit e
+            → ¬ (data_of val.now ≡ edit_data e) }
     {
         if let Some(args) = arguments(val, "put") {
             let val = single(args)?;
@@ -142,7 +143,8 @@ impl ValueOp {
 #[cycle(read)]
 fn read_patch(alloc: Global, args: &[Val]) -> Result<ObjectDiff, OpFault>
     ensures found { IfOk result (λ p. items_view args.now ≡ map (edits_data (edits_of p)) ∷ []) }
-    ensures only { result ≡ Err OpFault.WrongKind → (p : Patch) → IsSoundPatch p → ¬ (items_view args.now ≡ map (edits_data (edits_of p)) ∷ []) }
+    ensures only { result ≡ Err OpFault.WrongKind → (p : Patch) → IsSoundPatch p
+        → ¬ (items_view args.now ≡ map (edits_data (edits_of p)) ∷ []) }
 {
     match single(args)? {
         Val::Map(fields) => Ok(ObjectDiff::read(alloc, fields)?),
@@ -152,8 +154,10 @@ fn read_patch(alloc: Global, args: &[Val]) -> Result<ObjectDiff, OpFault>
 
 // What is appended, and an offset of 32 bits.
 fn read_append(args: &[Val]) -> Result<(&Val, u32), OpFault>
-    ensures found { IfOk result (λ a. items_view args.now ≡ data_of a.0.now ∷ whole (pos a.1) ∷ []) }
-    ensures only { IfErr result (λ e. (e ≡ OpFault.WrongKind) × ((d : Data) (n : ℕ) → n < 2 ^ 32 → ¬ (items_view args.now ≡ d ∷ whole (pos n) ∷ []))) }
+    ensures found { IfOk result
+        (λ a. items_view args.now ≡ data_of a.0.now ∷ whole (pos a.1) ∷ []) }
+    ensures only { IfErr result (λ e. (e ≡ OpFault.WrongKind)
+        × ((d : Data) (n : ℕ) → n < 2 ^ 32 → ¬ (items_view args.now ≡ d ∷ whole (pos n) ∷ []))) }
 {
     let Some((what, rest)) = args.split_first() else {
         return Err(OpFault::WrongKind);
@@ -169,7 +173,8 @@ fn read_append(args: &[Val]) -> Result<(&Val, u32), OpFault>
 
 // The append of a list or a text. `WrongKind` exactly where the value is neither, or `OutOfMemory`.
 fn append_of(alloc: Global, what: &Val, offset: u32) -> Result<ValueOp, OpFault>
-    ensures found { IfOk result (λ op. edit_data (edit_of op) ≡ append_data (data_of what.now) offset) }
+    ensures found { IfOk result
+        (λ op. edit_data (edit_of op) ≡ append_data (data_of what.now) offset) }
     ensures only { result ≡ Err OpFault.WrongKind → ¬ IsAppendable (data_of what.now) }
 {
     match what {

@@ -24,9 +24,12 @@ pub fn take_least<'a, A, B>(
     requires lefts_rise { AreRising lefts.now }
     requires rights_rise { AreRising rights.now }
     ensures none { IfNone result ((lefts.now ≡ []) × (rights.now ≡ [])) }
-    ensures left { IfSome result (λ t. IsTaken t.key.now (option_copied t.left) lefts.now t.lefts.now) }
-    ensures right { IfSome result (λ t. IsTaken t.key.now (option_copied t.right) rights.now t.rights.now) }
-    ensures fewer { IfSome result (λ t. length t.lefts.now + length t.rights.now < length lefts.now + length rights.now) }
+    ensures left { IfSome result
+        (λ t. IsTaken t.key.now (option_copied t.left) lefts.now t.lefts.now) }
+    ensures right { IfSome result
+        (λ t. IsTaken t.key.now (option_copied t.right) rights.now t.rights.now) }
+    ensures fewer { IfSome result
+        (λ t. length t.lefts.now + length t.rights.now < length lefts.now + length rights.now) }
 {
     let Some((left, later_lefts)) = lefts.split_first() else {
         let Some((right, later_rights)) = rights.split_first() else {

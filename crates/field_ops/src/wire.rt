@@ -1,8 +1,9 @@
 //! The values by which operations are sent and kept.
 //!
 //! A record operation is `["put",record]`, `["patch",patch]` or `["remove"]`. A patch is a map from keys to value
-//! operations, which are `["put",value]`, `["patch",patch]`, `["append",list,offset]` with an offset from 0 to 2^32 - 1,
-//! and `["delete"]`. A diff is a map from ids to record operations.
+//! operations. A value operation is `["put",value]`, `["patch",patch]`, `["append",list,offset]`,
+//! `["append",text,offset]` or `["delete"]`. An offset is from 0 to 2^32 - 1. A diff is a map from ids to record
+//! operations.
 ghost use Rattle.std.specs.Prelude.{◌≡◌, IfOk};
 ghost use Rattle.std.specs.Option.{ok_or};
 ghost use Rattle.rooms_val.specs.Answers.{Gives};
@@ -33,7 +34,8 @@ pub fn diff_val(alloc: Global, diff: &Diff) -> Mem<Val>
 
 /// The operation of a value. `WrongKind` exactly where the value is that of no operation, or `OutOfMemory`.
 pub fn read_op(alloc: Global, val: &Val) -> Result<RecordOp, OpFault>
-    ensures { Gives OpFault.OutOfMemory change_of result (ok_or (op_of_data (data_of val.now)) OpFault.WrongKind) }
+    ensures { Gives OpFault.OutOfMemory change_of result
+        (ok_or (op_of_data (data_of val.now)) OpFault.WrongKind) }
 {
     // That the value is sound is told by its kind, and the same of an operation by its name.
     let _ = val.kind();
@@ -48,7 +50,8 @@ pub fn read_op(alloc: Global, val: &Val) -> Result<RecordOp, OpFault>
 
 /// The diff of a value. `WrongKind` exactly where the value is that of no diff, or `OutOfMemory`.
 pub fn read_diff(alloc: Global, val: &Val) -> Result<Diff, OpFault>
-    ensures { Gives OpFault.OutOfMemory (λ d. d) result (ok_or (diff_of_data (data_of val.now)) OpFault.WrongKind) }
+    ensures { Gives OpFault.OutOfMemory (λ d. d) result
+        (ok_or (diff_of_data (data_of val.now)) OpFault.WrongKind) }
 {
     // That the value is sound is told by its kind, and the same of a diff by its length.
     let _ = val.kind();

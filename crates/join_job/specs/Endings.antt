@@ -41,7 +41,7 @@ abbrev pub stop_of_read : ReadFault → Stop
 stop_of_read read.Failed = stop.Read
 stop_of_read read.OutOfMemory = stop.Memory
 
--- why a script is cut off whose link gives no answer
+-- why a script is cut off where a call on its link returns no value
 abbrev pub stop_of_link : passing.Stop → Stop
 stop_of_link link.Failed = stop.Link
 stop_of_link link.OutOfMemory = stop.Memory

@@ -17,7 +17,7 @@ use Rattle.join_job.specs.declared.ending.Stop.{Stop}
 use Rattle.join_job.specs.declared.script.Reply.{Reply}
 use Rattle.join_job.specs.declared.step.Step.{Step}
 
--- the answer tells whether it holds
+-- the result tells whether it holds
 abbrev pub TellsWhether : Bool → Type 0 → Type 0
 TellsWhether true P = P
 TellsWhether false P = ¬ P

@@ -39,8 +39,8 @@ pub enum JoinEnd {
 }
 
 impl JoinEnd {
-    /// The status with which the job ends then: 0, 3, 4, 5, 6, 8 or 9, in the order of causes `Done`, `Refused`, `Read`, `Write`,
-    /// `Memory`, `Link`, `Server`.
+    /// The status with which the job ends then: 0, 3, 4, 5, 6, 8 or 9, in the order of causes `Done`, `Refused`, `Read`,
+    /// `Write`, `Memory`, `Link`, `Server`.
     pub fn status(self) -> u8
         ensures { result ≡ end_status self }
     {

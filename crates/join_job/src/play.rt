@@ -25,18 +25,20 @@ use rooms_val::{Steps, Text};
 use std::alloc::Global;
 use std::sync::ledger::Ledger;
 
-/// Plays the script that the source holds, of which it looks at 2^30 bytes at most: its client joins the room of this number over
-/// the link, at the header's version, does what the events say, and takes what comes. What it prints is written to the sink, line by
-/// line: what it shows, the views that it watches as they change, what its queries find, that its link has ended or that nothing came
-/// for long, and at the end the clock that it has reached and how many works are pending. What a line says goes out before its lines
-/// are written, and both before the source is read on. A room of which no server knows isn't refused here: the link ends then.
+/// Plays the script that the source holds, of which it looks at 2^30 bytes at most: its client joins the room of this number
+/// over the link, at the header's version, does what the events say, and takes what comes. What it prints is written to the
+/// sink, line by line: what it shows, the views that it watches as they change, what its queries find, that its link has
+/// ended or that nothing came for long, and at the end the clock that it has reached and how many works are pending. What a
+/// line says goes out before its lines are written, and both before the source is read on. A room of which no server knows
+/// isn't refused here: the link ends then.
 ///
-/// It ends `Done` where the script was read to its `end` line, `Refused` where it was refused at a line, and `Server` where a text of
-/// the room was refused; the fault line names the line, and why. It ends `Read` where a read of the source failed, `Write` where a
-/// write failed, `Link` where the link failed, and `Memory` where memory was refused; a front of what the script writes is written
-/// then, and a front of what it says went out.
+/// It ends `Done` where the script was read to its `end` line, `Refused` where it was refused at a line, and `Server` where
+/// a text of the room was refused; the fault line names the line, and why. It ends `Read` where a read of the source failed,
+/// `Write` where a write failed, `Link` where the link failed, and `Memory` where memory was refused; a front of what the
+/// script writes is written then, and a front of what it says went out.
 ///
-/// It costs the script, its events and what comes over the link, and the memory of its client, one line and a buffer of 65,536 bytes.
+/// It costs the script, its events and what comes over the link, and the memory of its client, one line and a buffer of
+/// 65,536 bytes.
 pub fn join_link<K: Link, S: Source, W: Sink, L: Ledger>(
     alloc: Global,
     room: u32,

@@ -52,7 +52,8 @@ impl Script {
         Script { room, joiner: None }
     }
 
-    /// Takes a line, of this number, without its newline. What it says goes out on the link. It costs the line and its event.
+    /// Takes a line, of this number, without its newline. What it says goes out on the link. It costs the line and its
+    /// event.
     ///
     /// # Errors
     ///

@@ -24,8 +24,8 @@ pub enum Step {
     End,
 }
 
-/// What a line behind the header says that client 0 is to do, or the text of why it says nothing. It costs the line; a line with
-/// a wrong field is read once more.
+/// What a line behind the header says that client 0 is to do, or the text of why it says nothing. It costs the line; a line
+/// with a wrong field is read once more.
 pub(crate) fn read_step(alloc: Global, line: &[u8]) -> Mem<Result<Step, Text>>
     ensures { IfOk result (IsRead line.now) }
 {

@@ -24,11 +24,11 @@ use std::sync::ledger::Ledger;
 /// The status of a job of which a worker failed.
 pub const WORKER_FAILED: u8 = 7;
 
-/// Plays the script that the source holds over the next link of the first worker, as `join_link` does, and gives the link back at
-/// its end. Where there is no worker, or no link is left, it is played over a link that has ended.
+/// Plays the script that the source holds over the next link of the first worker, as `join_link` does, and gives the link
+/// back at its end. Where there is no worker, or no link is left, it is played over a link that has ended.
 ///
-/// It answers 0, 3, 4, 5, 6, 8 or 9 as the script ended (`JoinEnd::status`), or 7 where the worker failed: nothing was read or
-/// written then. It costs what `join_link` does, and the wait for the link.
+/// It returns 0, 3, 4, 5, 6, 8 or 9 as the script ended (`JoinEnd::status`), or 7 where the worker failed: nothing was read
+/// or written then. It costs what `join_link` does, and the wait for the link.
 pub fn join_job<A: Accept, S: Source, W: Sink, L: Ledger>(
     alloc: Global,
     room: u32,
@@ -39,7 +39,8 @@ pub fn join_job<A: Accept, S: Source, W: Sink, L: Ledger>(
 ) -> u8
     ensures known { IsJoinStatus result }
 
-    // What the script writes and says, where the source tells what it holds, the worker its links, and the link its exchange.
+    // What the script writes and says, where the source tells what it holds, the worker its links, and the link its
+    // exchange.
     ensures played { result ≢ 7
         → PlaysOverWorkers A.Link.faults A.Link.told A.told room (S.left source.old)
         (W.held sink.old) (W.held sink.new) result workers.old.items workers.new.items }
@@ -68,7 +69,7 @@ fn status_of(played: Option<JoinEnd>) -> u8
     }
 }
 
-// Plays the script over the next link of the first worker, and answers how it ended; or nothing, where the worker failed.
+// Plays the script over the next link of the first worker, and returns how it ended; or none, where the worker failed.
 fn join_first<A: Accept, S: Source, W: Sink, L: Ledger>(
     alloc: Global,
     room: u32,
@@ -93,7 +94,7 @@ fn join_first<A: Accept, S: Source, W: Sink, L: Ledger>(
     join_next(alloc, room, &mut workers[0], source, sink, steps)
 }
 
-// Plays the script over the next link of a worker, and answers how it ended; or nothing, where the worker failed.
+// Plays the script over the next link of a worker, and returns how it ended; or none, where the worker failed.
 fn join_next<A: Accept, S: Source, W: Sink, L: Ledger>(
     alloc: Global,
     room: u32,

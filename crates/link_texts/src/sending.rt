@@ -74,7 +74,8 @@ impl Sent {
         ensures faults_stay { K.faults link.old ≤ K.faults link.new }
         ensures failed { OnFailed result (K.faults link.old < K.faults link.new) }
         ensures closed { Tells
-            (PutsOutAll (λ put. put ≡ outgoing.Close reason ∷ []) (λ put. put ≡ []) result self.old self.new)
+            (PutsOutAll (λ put. put ≡ outgoing.Close reason ∷ []) (λ put. put ≡ [])
+            result self.old self.new)
             (K.told link.old) (K.told link.new) }
     {
         link.close(reason)?;
@@ -157,7 +158,8 @@ impl Sent {
         ensures faults_stay { K.faults link.old ≤ K.faults link.new }
         ensures failed { OnFailed result (K.faults link.old < K.faults link.new) }
         ensures sent { Tells
-            (PutsOutAll (λ put. put ≡ outgoing.Text piece.now ∷ []) (λ put. put ≡ []) result self.old self.new)
+            (PutsOutAll (λ put. put ≡ outgoing.Text piece.now ∷ []) (λ put. put ≡ [])
+            result self.old self.new)
             (K.told link.old) (K.told link.new) }
     {
         link.send(piece)?;

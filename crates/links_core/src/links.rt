@@ -32,7 +32,8 @@ impl Model for Links {
       spare = vec_capacity s.nodes - vec_len s.nodes;
     } };
 
-    ghost invariant = { λ s. AreThreads s.nodes.items s.ends.items (walks s.nodes.items s.ends.items) };
+    ghost invariant = { λ s. AreThreads s.nodes.items s.ends.items
+        (walks s.nodes.items s.ends.items) };
 }
 
 /// Takes memory for one more node, where none is left.
@@ -41,7 +42,8 @@ fn make_room(nodes: &mut Vec<Node>) -> Result<(), AllocError>
     ensures ok { OnOk result (vec_len nodes.new < vec_capacity nodes.new) }
     ensures err { OnErr result (vec_capacity nodes.new ≡ vec_capacity nodes.old) }
     ensures sure { vec_len nodes.old < vec_capacity nodes.old → IsOk result }
-    ensures kept { vec_len nodes.old < vec_capacity nodes.old → vec_capacity nodes.new ≡ vec_capacity nodes.old }
+    ensures kept { vec_len nodes.old < vec_capacity nodes.old
+        → vec_capacity nodes.new ≡ vec_capacity nodes.old }
 {
     if nodes.len() < nodes.capacity() {
         return Ok(());
@@ -67,7 +69,8 @@ impl Links {
     ///
     /// Memory was refused, and nothing changed.
     pub fn list(&mut self) -> Result<ListId, AllocError>
-        ensures ok { IfOk result (λ l. (l.number ≡ length self.old.lists) × (self.new.lists ≡ self.old.lists ++ [] ∷ [])) }
+        ensures ok { IfOk result (λ l. (l.number ≡ length self.old.lists)
+            × (self.new.lists ≡ self.old.lists ++ [] ∷ [])) }
         ensures err { OnErr result (self.new.lists ≡ self.old.lists) }
         ensures count { self.new.count ≡ self.old.count }
         ensures spare { self.new.spare ≡ self.old.spare }
@@ -101,7 +104,8 @@ impl Links {
     ///
     /// Memory was refused, which can't be where `reserve` left some to spare, and nothing changed.
     pub fn node(&mut self) -> Result<usize, AllocError>
-        ensures ok { IfOk result (λ x. (x ≡ self.old.count) × (self.new.count ≡ self.old.count + 1)) }
+        ensures ok { IfOk result
+            (λ x. (x ≡ self.old.count) × (self.new.count ≡ self.old.count + 1)) }
         ensures err { OnErr result (self.new ≡ self.old) }
         ensures lists { self.new.lists ≡ self.old.lists }
         ensures unlinked { IfOk result (λ x. IsLinked self.new.lists x → ⊥) }
@@ -140,7 +144,8 @@ impl Links {
         requires list { list.number < length self.old.lists }
         requires made { node < self.old.count }
         requires unlinked { IsLinked self.old.lists node → ⊥ }
-        ensures lists { self.new.lists ≡ slice_set self.old.lists list.number (list_at self.old.lists list.number ++ node ∷ []) }
+        ensures lists { self.new.lists ≡ slice_set self.old.lists list.number
+            (list_at self.old.lists list.number ++ node ∷ []) }
         ensures sound { AreSound self.new.lists self.new.count }
         ensures count { self.new.count ≡ self.old.count }
         ensures spare { self.new.spare ≡ self.old.spare }
@@ -184,7 +189,9 @@ impl Links {
     /// Puts a linked node at the end of its list, in a fixed number of steps and without memory.
     pub fn move_back(&mut self, node: usize)
         requires { IsLinked self.old.lists node }
-        ensures lists { (number : ℕ) → Contains (list_at self.old.lists number) node → self.new.lists ≡ slice_set (map (without node) self.old.lists) number (without node (list_at self.old.lists number) ++ node ∷ []) }
+        ensures lists { (number : ℕ) → Contains (list_at self.old.lists number) node
+            → self.new.lists ≡ slice_set (map (without node) self.old.lists) number
+            (without node (list_at self.old.lists number) ++ node ∷ []) }
         ensures sound { AreSound self.new.lists self.new.count }
         ensures count { self.new.count ≡ self.old.count }
         ensures spare { self.new.spare ≡ self.old.spare }

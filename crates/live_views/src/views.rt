@@ -82,7 +82,8 @@ pub fn told<L: Ledger>(
     ensures err { OnErr result (watches store.new ≡ watches store.old) }
     ensures asked { AreAsked store.old store.new }
     ensures fresh { OnOk result (AreFreshKeys (watches store.old) store.new.txn.graph.values) }
-    ensures free { AreFreshIn (watches store.old) store.old.txn.graph.values → steps.new ≡ steps.old }
+    ensures free { AreFreshIn (watches store.old) store.old.txn.graph.values
+        → steps.new ≡ steps.old }
 {
     let news = store.news(alloc, steps)?;
     let told = told_each(alloc, news.due())?;

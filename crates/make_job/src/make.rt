@@ -163,7 +163,7 @@ fn end<K: Sink, L: Ledger>(
     Ok(())
 }
 
-// What the room says at the end. A world refuses an end only for want of memory.
+// What the room says at the end. A world refuses an end only where memory runs out.
 fn end_lines<L: Ledger>(alloc: Global, world: &mut World, steps: &mut Steps<L>) -> Mem<Vec<OutLine>>
     ensures { IfOk result (λ lines. (schemas : WorldSchemas EditFault) (model : model.World)
         → Stands schemas model world.old → lines.items ≡ end_line schemas model ∷ []) }

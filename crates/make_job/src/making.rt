@@ -171,7 +171,7 @@ impl Making {
         self.sessions += 1;
     }
 
-    // Counts an event that was refused, unless it was for want of memory.
+    // Counts an event that was refused, unless memory ran out.
     fn leave_out(&mut self, fault: StepFault<EditFault>) -> Mem<()>
         requires { HasPlace 1 self.old }
         ensures { OnOk result ((is_refusal fault ≡ true)

@@ -3,7 +3,7 @@ use Rattle.std.specs.Prelude.{◌≡◌, ℕ, zero, suc, List, [], ◌∷◌, Bo
 use Rattle.std.specs.List.{list_any}
 use Rattle.std.specs.Option.{option_map_or}
 
--- the first answer that there is for an element
+-- the first value that the function returns for an element, if it returns one
 abbrev pub first_some : {X Y : Type 0} → (X → Option Y) → List X → Option Y
 first_some f [] = None
 first_some f (x ∷ xs) = option_map_or Some (f x) (first_some f xs)

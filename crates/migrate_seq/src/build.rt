@@ -207,7 +207,8 @@ pub(crate) fn unknown(list: &[Sequence]) -> Option<&Text>
 }
 
 fn unknown_of<'a>(list: &[Sequence], migrations: &'a [Migration]) -> Option<&'a Text>
-    ensures { option_map (λ id. id.now) result ≡ first_some (λ m. unknown_in list.now m.depends.items) migrations.now }
+    ensures { option_map (λ id. id.now) result
+        ≡ first_some (λ m. unknown_in list.now m.depends.items) migrations.now }
 {
     for migration in migrations {
         if let Some(id) = unknown_in(list, &migration.depends) {
@@ -272,7 +273,8 @@ fn insert_by_id(sorted: &mut Vec<Sequence>, sequence: Sequence) -> Mem<()>
 // Where a sequence with an id goes: before the first one with a greater id.
 fn place_for(sorted: &[Sequence], id: &Text) -> usize
     ensures within { result ≤ length sorted.now }
-    ensures place { (s : Sequence) → s.id ≡ id.now → insert sorted.now result s ≡ inserted s sorted.now }
+    ensures place { (s : Sequence) → s.id ≡ id.now
+        → insert sorted.now result s ≡ inserted s sorted.now }
 {
     for place in 0..sorted.len() {
         if id.as_str() < sorted[place].id.as_str() {

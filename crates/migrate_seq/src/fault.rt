@@ -9,7 +9,7 @@ use std::marker::Model;
 use thiserror::Error;
 
 /// Why there is no plan from what somebody holds. The first name at fault, in the order of the names' bytes, is
-/// answered.
+/// returned.
 #[derive(Drop, Error)]
 pub enum PlanFault {
     /// This sequence is held at a version above its newest.
@@ -61,7 +61,7 @@ impl Ids {
     }
 }
 
-/// Why sequences don't fit together. Of several causes the first in this order is answered, and under each the first
+/// Why sequences don't fit together. Of several causes the first in this order is returned, and under each the first
 /// at fault in the order of the list.
 #[derive(Drop, Error)]
 pub enum SeqFault {

@@ -21,8 +21,10 @@ pub(crate) struct Taken {
 
 // The first free migration is taken again and again.
 pub(crate) fn take_in_turn(alloc: Global, sequences: &[Sequence], places: Vec<Place>) -> Mem<Taken>
-    ensures taken { IfOk result (λ r. r.taken.items ≡ in_order (follows sequences.now) places.items) }
-    ensures left { IfOk result (λ r. r.left.items ≡ never_taken (follows sequences.now) places.items) }
+    ensures taken { IfOk result
+        (λ r. r.taken.items ≡ in_order (follows sequences.now) places.items) }
+    ensures left { IfOk result
+        (λ r. r.left.items ≡ never_taken (follows sequences.now) places.items) }
 {
     let mut taken = Vec::new(alloc);
     let mut left = places;
@@ -34,7 +36,8 @@ pub(crate) fn take_in_turn(alloc: Global, sequences: &[Sequence], places: Vec<Pl
 
 // Takes the first one that follows none of them.
 fn take_free(sequences: &[Sequence], left: &mut Vec<Place>) -> Option<Place>
-    ensures picked { option_map (λ p. (p, left.new.items)) result ≡ picked (is_free (follows sequences.now) left.old.items) left.old.items }
+    ensures picked { option_map (λ p. (p, left.new.items)) result
+        ≡ picked (is_free (follows sequences.now) left.old.items) left.old.items }
     ensures none { IfNone result (left.new.items ≡ left.old.items) }
 {
     match first_free(sequences, left) {
@@ -45,7 +48,8 @@ fn take_free(sequences: &[Sequence], left: &mut Vec<Place>) -> Option<Place>
 
 fn first_free(sequences: &[Sequence], left: &[Place]) -> Option<usize>
     ensures within { IfSome result (λ i. i < length left.now) }
-    ensures picked { (d : Place) → picked (is_free (follows sequences.now) left.now) left.now ≡ option_map (λ i. (slice_index_or left.now i d, remove left.now i)) result }
+    ensures picked { (d : Place) → picked (is_free (follows sequences.now) left.now) left.now
+        ≡ option_map (λ i. (slice_index_or left.now i d, remove left.now i)) result }
 {
     for index in 0..left.len() {
         if is_free(sequences, left[index], left) {
@@ -73,7 +77,8 @@ fn follows(sequences: &[Sequence], later: Place, earlier: Place) -> bool
 }
 
 fn is_next(later: Place, earlier: Place) -> bool
-    ensures { result ≡ (nat_eq later.sequence earlier.sequence && nat_eq later.migration (suc earlier.migration)) }
+    ensures { result ≡ (nat_eq later.sequence earlier.sequence
+        && nat_eq later.migration (suc earlier.migration)) }
 {
     later.sequence == earlier.sequence
         && earlier.migration < later.migration
@@ -81,7 +86,8 @@ fn is_next(later: Place, earlier: Place) -> bool
 }
 
 fn depends(sequences: &[Sequence], later: Place, earlier: Place) -> bool
-    ensures { result ≡ depends_on (migration_at sequences.now later) (migration_at sequences.now earlier) }
+    ensures { result ≡ depends_on (migration_at sequences.now later)
+        (migration_at sequences.now earlier) }
 {
     match at(sequences, later) {
         Some(later) => match at(sequences, earlier) {

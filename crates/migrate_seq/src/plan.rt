@@ -28,8 +28,10 @@ impl Plan {
     // The plan of some migrations in their order.
     pub(crate) fn new(sequences: &[Sequence], places: Vec<Place>) -> Plan
         ensures places { places_in result ≡ places.items }
-        ensures both_ways { goes_both_ways result ≡ are_both_ways (migrations_at sequences.now places.items) }
-        ensures records_only { is_of_records result ≡ are_of_records (migrations_at sequences.now places.items) }
+        ensures both_ways { goes_both_ways result
+            ≡ are_both_ways (migrations_at sequences.now places.items) }
+        ensures records_only { is_of_records result
+            ≡ are_of_records (migrations_at sequences.now places.items) }
     {
         let both_ways = are_both_ways(sequences, &places);
         let records_only = are_of_records(sequences, &places);
@@ -130,7 +132,8 @@ pub(crate) fn push_places(
     first: usize,
     end: usize,
 ) -> Mem<()>
-    ensures { OnOk result (places.new.items ≡ places.old.items ++ places_from sequence first (end - first)) }
+    ensures { OnOk result
+        (places.new.items ≡ places.old.items ++ places_from sequence first (end - first)) }
 {
     for migration in first..end {
         places.push(Place {
@@ -147,7 +150,8 @@ pub(crate) fn check(
     sequences: &[Sequence],
     held: &Serialized,
 ) -> Result<(), PlanFault>
-    ensures { Gives plan_fault.OutOfMemory (λ _. tt) result (refusal (first_fault sequences.now held.now)) }
+    ensures { Gives plan_fault.OutOfMemory (λ _. tt) result
+        (refusal (first_fault sequences.now held.now)) }
 {
     for place in 0..held.len() {
         let Some((name, version)) = held.at(place) else {
@@ -166,7 +170,8 @@ fn check_version(
     name: &Text,
     version: u64,
 ) -> Result<(), PlanFault>
-    ensures { Gives plan_fault.OutOfMemory (λ _. tt) result (refusal (version_fault sequences.now (name.now, version))) }
+    ensures { Gives plan_fault.OutOfMemory (λ _. tt) result
+        (refusal (version_fault sequences.now (name.now, version))) }
 {
     match find(sequences, name) {
         Some(sequence) => {

@@ -41,7 +41,8 @@ impl Sequences {
         ensures rising { IfOk result (λ s. IsTrue (have_rising_ids (sequences_of s))) }
 
         // They are the listed ones, each as often.
-        ensures same { IfOk result (λ s. (test : Sequence → Bool) → count_by test (sequences_of s) ≡ count_by test list.items) }
+        ensures same { IfOk result (λ s. (test : Sequence → Bool)
+            → count_by test (sequences_of s) ≡ count_by test list.items) }
     {
         if let Some(id) = gap(&list) {
             let id = id.copy(alloc)?;
@@ -72,11 +73,15 @@ impl Sequences {
     /// The plan of the migrations that somebody misses, who holds these versions. At each place stands the least free
     /// one, by the id of its sequence and its version, of those from there on.
     pub fn since(&self, alloc: Global, held: &Serialized) -> Result<Plan, PlanFault>
-        ensures plan { Gives plan_fault.OutOfMemory places_in result (plan_answer (sequences_of self.now) held.now) }
+        ensures plan { Gives plan_fault.OutOfMemory places_in result
+            (plan_answer (sequences_of self.now) held.now) }
         ensures order { IfOk result (λ p. IsPlan (sequences_of self.now) held.now (places_in p)) }
-        ensures only { IfOk result (λ p. (other : List Place) → IsPlan (sequences_of self.now) held.now other → other ≡ places_in p) }
-        ensures both_ways { IfOk result (λ p. goes_both_ways p ≡ are_both_ways (migrations_at (sequences_of self.now) (places_in p))) }
-        ensures records_only { IfOk result (λ p. is_of_records p ≡ are_of_records (migrations_at (sequences_of self.now) (places_in p))) }
+        ensures only { IfOk result (λ p. (other : List Place)
+            → IsPlan (sequences_of self.now) held.now other → other ≡ places_in p) }
+        ensures both_ways { IfOk result (λ p. goes_both_ways p
+            ≡ are_both_ways (migrations_at (sequences_of self.now) (places_in p))) }
+        ensures records_only { IfOk result (λ p. is_of_records p
+            ≡ are_of_records (migrations_at (sequences_of self.now) (places_in p))) }
     {
         let sequences = self.sequences.as_slice();
         check(alloc, sequences, held)?;
@@ -88,7 +93,8 @@ impl Sequences {
     /// A record after the migrations of a plan, in their order.
     pub fn up(&self, alloc: Global, plan: &Plan, record_: &Val) -> Mem<Val>
         requires { IsTrue (is_of_records plan.now) }
-        ensures { IfOk result (λ v. data_of v ≡ raised_along (migrations_at (sequences_of self.now) (places_in plan.now)) (data_of record_.now)) }
+        ensures { IfOk result (λ v. data_of v ≡ raised_along
+            (migrations_at (sequences_of self.now) (places_in plan.now)) (data_of record_.now)) }
     {
         let mut after = record_.copy(alloc)?;
         for place in plan.places() {
@@ -103,7 +109,8 @@ impl Sequences {
     /// the records that its filter matches. It costs a pass over the map for each migration, and a copy of the records
     /// that are changed; copies of the map share the others.
     pub fn up_map(&self, alloc: Global, plan: &Plan, records: &Fields) -> Mem<Fields>
-        ensures { IfOk result (λ m. m ≡ raised_map (migrations_at (sequences_of self.now) (places_in plan.now)) records.now) }
+        ensures { IfOk result (λ m. m
+            ≡ raised_map (migrations_at (sequences_of self.now) (places_in plan.now)) records.now) }
     {
         let mut after = records.copy(alloc)?;
         for place in plan.places() {
@@ -117,7 +124,8 @@ impl Sequences {
     /// A record after the migrations of a plan are run down, the last one first.
     pub fn down(&self, alloc: Global, plan: &Plan, record_: &Val) -> Mem<Val>
         requires { IsTrue (goes_both_ways plan.now) }
-        ensures { IfOk result (λ v. data_of v ≡ lowered_along (migrations_at (sequences_of self.now) (places_in plan.now)) (data_of record_.now)) }
+        ensures { IfOk result (λ v. data_of v ≡ lowered_along
+            (migrations_at (sequences_of self.now) (places_in plan.now)) (data_of record_.now)) }
     {
         let places = plan.places();
         let mut after = record_.copy(alloc)?;
@@ -147,7 +155,8 @@ impl Sequences {
 
     // The migration at a place.
     fn at(&self, place: Place) -> Option<&Migration>
-        ensures found { option_map (λ m. m.now) result ≡ migration_at (sequences_of self.now) place }
+        ensures found { option_map (λ m. m.now) result
+            ≡ migration_at (sequences_of self.now) place }
         ensures scales { IfSome result (λ m. IsTrue (list_all can_scale m.now.steps.items)) }
     {
         at(&self.sequences, place)

@@ -103,7 +103,8 @@ impl Serialized {
     /// The versions that a value stands for. `WrongKind` exactly where it stands for none.
     pub fn read(alloc: Global, val: &Val) -> Result<Serialized, OpFault>
         ensures found { IfOk result (λ s. data_of val.now ≡ schema_of s) }
-        ensures wrong { result ≡ Err op_fault.WrongKind → (s : List (List ℕ × ℕ)) → ¬ (data_of val.now ≡ schema_of s) }
+        ensures wrong { result ≡ Err op_fault.WrongKind → (s : List (List ℕ × ℕ))
+            → ¬ (data_of val.now ≡ schema_of s) }
     {
         match sequences_in(val) {
             Some(versions) => {

@@ -77,9 +77,12 @@ pub fn migrate(alloc: Global, migration: &Migration, way: Way, record_: Val) -> 
     }
 }
 
-/// A map of records by their ids after a migration up: each record that its filter lets through after its steps, whatever
-/// its scope. Each factor of its steps is at least 2. It costs one pass over the map, and a copy of the records that are
-/// changed; copies of the map share the others.
+/// A map of records by their ids, after a migration up. Each record that the migration's filter lets through is as the
+/// steps leave it, and each other record is as it was. The migration's scope makes no difference. Each factor of the steps
+/// is at least 2.
+///
+/// It costs one pass over the map, and a copy of what the steps change of each record. A record that isn't changed is
+/// shared with the copies of the map.
 ///
 /// # Errors
 ///

@@ -25,7 +25,7 @@ OneEventEach = (a b : RecordedEvent) → recorded_val a ≡ recorded_val b → I
 abbrev pub OneHeaderEach : Type 0
 OneHeaderEach = (a b : Header) → header_val a ≡ header_val b → a ≡ b
 
--- an answer that keeps the contract of `read_line` is, for a line that stands for an event, this event or want of memory
+-- for a line that stands for an event, a result that keeps the contract of `read_line` is the same event, or `OutOfMemory`
 abbrev pub ReadsTheEvent : Type 0
 ReadsTheEvent = (line : List ℕ) (r : Result RecordedEvent LineFault) → IfOk r (IsEvent line) → IfErr r (RefusesLine line)
     → (e : RecordedEvent) → IsEvent line e → MatchResult r (λ x. IsSame x e) (λ f. f ≡ line_fault.OutOfMemory)

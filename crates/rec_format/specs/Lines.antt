@@ -65,7 +65,7 @@ RefusesBytes line (line_fault.Val fault) = length line ≤ LONGEST_LINE × (valu
 RefusesBytes line line_fault.OutOfMemory = Unit {0}
 RefusesBytes line _ = ⊥
 
--- the cause of each fault of a line that is read as a header; want of memory has none
+-- the cause of each fault of a line that is read as a header; `OutOfMemory` alone has none
 abbrev pub RefusesHeader : List ℕ → LineFault → Type 0
 RefusesHeader line line_fault.LineTooLong = LONGEST_LINE < length line
 RefusesHeader line (line_fault.Val fault) = length line ≤ LONGEST_LINE × (value_of line ≡ Err fault)
@@ -74,7 +74,7 @@ RefusesHeader line line_fault.UnknownEvent = ⊥
 RefusesHeader line line_fault.Field = ⊥
 RefusesHeader line line_fault.OutOfMemory = Unit {0}
 
--- the cause of each fault of a line that is read as an event; want of memory has none
+-- the cause of each fault of a line that is read as an event; `OutOfMemory` alone has none
 abbrev pub RefusesLine : List ℕ → LineFault → Type 0
 RefusesLine line line_fault.LineTooLong = LONGEST_LINE < length line
 RefusesLine line (line_fault.Val fault) = length line ≤ LONGEST_LINE × (value_of line ≡ Err fault)

@@ -6,7 +6,7 @@ ghost use Rattle.rec_format.specs.declared.fault.LineFault.TheVariants as line_f
 use rooms_val::{OpFault, OutOfMemory, ValFault};
 use thiserror::Error;
 
-/// Why a line isn't read. Of several causes the first in this order is answered.
+/// Why a line isn't read. Of several causes the first in this order is returned.
 #[derive(Clone, Copy, Debug, PartialEq, Eq, Error)]
 pub enum LineFault {
     /// The line has more than 1,048,576 bytes without its newline.

@@ -131,8 +131,8 @@ fn most_place(
     Ok(guess)
 }
 
-// Where a record of an index and an id stands among ids, or would stand. It costs two look-ups where the guess is right, and one more
-// for each halving where it isn't.
+// Where a record of an index and an id stands among ids, or would stand. It costs two look-ups where the guess is right, and
+// one more for each halving where it isn't.
 fn place_among(
     alloc: Global,
     graph: &Txn<TlRules>,
@@ -321,8 +321,8 @@ fn relist_all(
     relist(alloc, graph, keys, Listing::BoundTo, id, before, after)
 }
 
-// Sets the record of an id, which has a key, and all lists with it, and gives the record before. Where memory is refused some
-// of that is done.
+// Sets the record of an id, which has a key, and all lists with it, and gives the record before. Where memory is refused
+// some of that is done.
 pub(crate) fn write_all(
     alloc: Global,
     graph: &mut Txn<TlRules>,

@@ -72,7 +72,8 @@ impl Checks {
     /// The first fault of a map that is to have exactly these keys, each with a value that fits.
     #[cycle(valid)]
     pub(crate) fn check_object(&self, val: &Val, depth: u32) -> Result<(), Reject>
-        ensures { result_err result ≡ first_fault depth None (object (rows_of self.now)) (data_of val.now) }
+        ensures { result_err result
+            ≡ first_fault depth None (object (rows_of self.now)) (data_of val.now) }
     {
         let Val::Map(map) = val else {
             return at(depth, Err(RejectKind::WrongKind));
@@ -90,7 +91,8 @@ impl Checks {
     /// The first fault of a value by the check that stands under the text.
     #[cycle(valid)]
     pub(crate) fn check_row(&self, val: &Val, depth: u32, kind: Option<&str>) -> Result<(), Reject>
-        ensures { result_err result ≡ row_fault depth (option_copied kind.entry) (rows_of self.now) (data_of val.now) }
+        ensures { result_err result
+            ≡ row_fault depth (option_copied kind.entry) (rows_of self.now) (data_of val.now) }
     {
         let unlisted = Reject {
             depth,
@@ -107,7 +109,8 @@ impl Checks {
 
     /// Whether a check stands under the key and the value fits it, or neither is there.
     pub(crate) fn fits_at(&self, key: &str, val: Option<&Val>, kind: Option<&str>) -> bool
-        ensures { result ≡ fit_at (option_copied kind.entry) (value_at self.now key.now) (option_map (λ v. data_of v.now) val.entry) }
+        ensures { result ≡ fit_at (option_copied kind.entry) (value_at self.now key.now)
+            (option_map (λ v. data_of v.now) val.entry) }
     {
         match entries::get(&self.entries, key) {
             Some(check) => match val {

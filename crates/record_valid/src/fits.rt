@@ -12,8 +12,9 @@ use rooms_val::Val;
 
 /// Tells whether the value fits the check, and if not its first fault, which [`Reject`] describes.
 ///
-/// Of a map the least missing key comes first, then the least key too many, then the fields by key; the items of a
-/// list come in order. The call takes no memory, and goes a fixed number of times over each list and map.
+/// Of a map, that a key is missing comes first, and then that a key is too many. Which key it is isn't told. Then come the
+/// fields, in the order of their keys. The items of a list come in order. The call takes no memory, and goes a fixed
+/// number of times over each list and map.
 pub fn check(check: &Check, val: &Val) -> Result<(), Reject>
     ensures fits { IsOk result ↔ Fits None (tree_of check.now) (data_of val.now) }
     ensures fault { result_err result ≡ first_fault 0 None (tree_of check.now) (data_of val.now) }

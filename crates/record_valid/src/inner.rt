@@ -59,7 +59,9 @@ impl Inner {
         depth: u32,
         kind: Option<&str>,
     ) -> Result<(), Reject>
-        ensures { result_err result ≡ null_or (first_fault depth (option_copied kind.entry) self.now (data_of val.now)) (data_of val.now) }
+        ensures { result_err result ≡ null_or
+            (first_fault depth (option_copied kind.entry) self.now (data_of val.now))
+            (data_of val.now) }
     {
         match val {
             Val::Null => Ok(()),

@@ -1,8 +1,8 @@
 //! The checks that a record must pass: what they are, which values fit them, and the first fault of one that doesn't.
 //!
 //! Contracts see a `Check` as a tree, `CheckTree`, by `tree_of`, and a value as `Data`. `Fits` says which values fit a
-//! check, and `first_fault` what is wrong with the others. The crate stands on `rooms_val` for values and on
-//! `index_keys` for the keys among texts.
+//! check, and `first_fault` what is wrong with the others. The crate stands on `rooms_val` for values, on `field_ops` for
+//! patches, and on `index_keys` for the keys among texts.
 #![tactic(auto)]
 
 pub mod check_table;

@@ -24,7 +24,8 @@ fn unless(holds: bool, kind: RejectKind) -> Result<(), RejectKind>
 }
 
 pub(crate) fn check_whole(val: &Val, least: i64, most: i64) -> Result<(), RejectKind>
-    ensures { result_err result ≡ part_fault RejectKind.WrongKind (as_whole (data_of val.now)) (bounds_fault least most) }
+    ensures { result_err result
+        ≡ part_fault RejectKind.WrongKind (as_whole (data_of val.now)) (bounds_fault least most) }
 {
     match val {
         Val::Int(number) => unless(least <= *number && *number <= most, RejectKind::OutOfBounds),
@@ -33,7 +34,8 @@ pub(crate) fn check_whole(val: &Val, least: i64, most: i64) -> Result<(), Reject
 }
 
 pub(crate) fn check_truth(val: &Val) -> Result<(), RejectKind>
-    ensures { result_err result ≡ part_fault RejectKind.WrongKind (as_truth (data_of val.now)) no_fault }
+    ensures { result_err result
+        ≡ part_fault RejectKind.WrongKind (as_truth (data_of val.now)) no_fault }
 {
     match val {
         Val::Bool(_) => Ok(()),
@@ -42,7 +44,8 @@ pub(crate) fn check_truth(val: &Val) -> Result<(), RejectKind>
 }
 
 pub(crate) fn check_dict(val: &Val) -> Result<(), RejectKind>
-    ensures { result_err result ≡ part_fault RejectKind.WrongKind (as_members (data_of val.now)) no_fault }
+    ensures { result_err result
+        ≡ part_fault RejectKind.WrongKind (as_members (data_of val.now)) no_fault }
 {
     match val {
         Val::Map(_) => Ok(()),
@@ -51,7 +54,8 @@ pub(crate) fn check_dict(val: &Val) -> Result<(), RejectKind>
 }
 
 pub(crate) fn check_length(val: &Val, most: u64) -> Result<(), RejectKind>
-    ensures { result_err result ≡ part_fault RejectKind.WrongKind (as_text (data_of val.now)) (length_fault most) }
+    ensures { result_err result
+        ≡ part_fault RejectKind.WrongKind (as_text (data_of val.now)) (length_fault most) }
 {
     let Some(text) = val.as_text() else {
         return Err(RejectKind::WrongKind);
@@ -60,7 +64,8 @@ pub(crate) fn check_length(val: &Val, most: u64) -> Result<(), RejectKind>
 }
 
 pub(crate) fn check_listed(val: &Val, texts: &[Text]) -> Result<(), RejectKind>
-    ensures { result_err result ≡ part_fault RejectKind.WrongKind (as_text (data_of val.now)) (list_fault texts.now) }
+    ensures { result_err result
+        ≡ part_fault RejectKind.WrongKind (as_text (data_of val.now)) (list_fault texts.now) }
 {
     let Some(text) = val.as_text() else {
         return Err(RejectKind::WrongKind);
@@ -69,7 +74,8 @@ pub(crate) fn check_listed(val: &Val, texts: &[Text]) -> Result<(), RejectKind>
 }
 
 pub(crate) fn check_key(val: &Val) -> Result<(), RejectKind>
-    ensures { result_err result ≡ part_fault RejectKind.WrongKind (as_text (data_of val.now)) key_fault }
+    ensures { result_err result
+        ≡ part_fault RejectKind.WrongKind (as_text (data_of val.now)) key_fault }
 {
     let Some(text) = val.as_text() else {
         return Err(RejectKind::WrongKind);
@@ -81,7 +87,8 @@ pub(crate) fn check_key(val: &Val) -> Result<(), RejectKind>
 }
 
 pub(crate) fn check_id(val: &Val, types: &[Text]) -> Result<(), RejectKind>
-    ensures { result_err result ≡ part_fault RejectKind.WrongKind (as_text (data_of val.now)) (id_fault types.now) }
+    ensures { result_err result
+        ≡ part_fault RejectKind.WrongKind (as_text (data_of val.now)) (id_fault types.now) }
 {
     let Some(text) = val.as_text() else {
         return Err(RejectKind::WrongKind);

@@ -43,7 +43,8 @@ pub struct Reject {
 
 /// Tells how deep the fault is.
 pub(crate) fn at(depth: u32, checked: Result<(), RejectKind>) -> Result<(), Reject>
-    ensures { result_err result ≡ option_map (λ kind. record { depth = depth; kind = kind }) (result_err checked) }
+    ensures { result_err result
+        ≡ option_map (λ kind. record { depth = depth; kind = kind }) (result_err checked) }
 {
     checked.map_err(|kind| Reject { depth, kind })
 }

@@ -85,7 +85,8 @@ impl Check {
         depth: u32,
         kind: Option<&str>,
     ) -> Result<(), Reject>
-        ensures { result_err result ≡ first_fault depth (option_copied kind.entry) (tree_of self.now) (data_of val.now) }
+        ensures { result_err result
+            ≡ first_fault depth (option_copied kind.entry) (tree_of self.now) (data_of val.now) }
     {
         match self {
             Check::Whole(least, most) => at(depth, check_whole(val, *least, *most)),

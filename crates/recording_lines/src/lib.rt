@@ -3,8 +3,8 @@
 //!
 //! Contracts see a `LineReader` as the line that it gave or gathers, the bytes that wait in its
 //! buffer, and how many more it may read; what is to come from it is what it holds, followed by what
-//! its source has left. How a recording is cut into lines is defined in `specs/Lines.antt`. It stands
-//! on `room_link` alone.
+//! its source has left. How a recording is cut into lines is defined in `specs/Lines.antt`. The crate
+//! stands on `room_link`, and on `thiserror` for its faults.
 #![tactic(auto)]
 
 pub mod fault;

@@ -122,8 +122,8 @@ impl LineReader {
 
     /// Goes on to the next line, and reads of the source as far as that wants.
     ///
-    /// It costs the bytes of the line, however the source's reads cut them. At an answer other than
-    /// `Line` nothing is lost: what was gathered is kept, and the next call goes on there.
+    /// It costs the bytes of the line, however the source's reads cut them. Where it doesn't return
+    /// `Line`, nothing is lost: what was gathered is kept, and the next call goes on there.
     ///
     /// # Errors
     ///
@@ -136,23 +136,26 @@ impl LineReader {
         ensures short { OnLine result (length self.new.line ≤ self.old.longest) }
         ensures shorter { OnLine result (budget self.new < budget self.old) }
 
-        // Other answers, and what they leave.
+        // Other results, and what they leave.
         ensures too_long { OnTooLong result (IfSome (to_come self.old (S.left source.old))
-            (λ bytes. BeginsTooLong self.old.longest (lines_left self.old.longest (budget self.old) bytes))) }
+            (λ bytes. BeginsTooLong self.old.longest
+            (lines_left self.old.longest (budget self.old) bytes))) }
         ensures end { IfEnd result (λ whole. IfSome (to_come self.old (S.left source.old))
             (λ bytes. (lines_left self.old.longest (budget self.old) bytes ≡ [])
             × (whole ≡ nat_lt (length bytes) (budget self.old)))) }
-        ensures kept { UnlessLine result (Keeps (to_come self.old (S.left source.old)) (to_come self.new (S.left source.new))) }
+        ensures kept { UnlessLine result (Keeps
+            (to_come self.old (S.left source.old)) (to_come self.new (S.left source.new))) }
         ensures kept_budget { UnlessLine result (budget self.new ≡ budget self.old) }
 
         ensures faults_stay { S.faults source.old ≤ S.faults source.new }
         ensures failed { IsErrOf result fault.Failed → S.faults source.old < S.faults source.new }
 
-        // On every answer the limit of a line stays.
+        // Whatever is returned, the limit of a line stays.
         ensures longest { self.new.longest ≡ self.old.longest }
 
-        // On every answer a front is gone from the source, of no more bytes than may be read no longer.
-        ensures taken { TakesUnread self.old.unread self.new.unread (S.left source.old) (S.left source.new) }
+        // Whatever is returned, a front is gone from the source, of no more bytes than may be read no longer.
+        ensures taken { TakesUnread self.old.unread self.new.unread
+            (S.left source.old) (S.left source.new) }
     {
         self.open_line();
         'pieces: loop {
@@ -213,8 +216,10 @@ impl LineReader {
         requires unread { 0 < self.old.unread }
         ensures faults_stay { S.faults source.old ≤ S.faults source.new }
         ensures failed { OnErr result (S.faults source.old < S.faults source.new) }
-        ensures ok { IfOk result (λ n. Fills n self.old self.new (S.left source.old) (S.left source.new)) }
-        ensures err { OnErr result ((self.new ≡ self.old) × Keeps (S.left source.old) (S.left source.new)) }
+        ensures ok { IfOk result (λ n. Fills n self.old self.new
+            (S.left source.old) (S.left source.new)) }
+        ensures err { OnErr result ((self.new ≡ self.old)
+            × Keeps (S.left source.old) (S.left source.new)) }
     {
         let n = read_front(source, &mut self.buffer, self.unread.min(PIECE))?;
         self.start = 0;
@@ -241,7 +246,8 @@ fn read_front<S: Source>(source: &mut S, buffer: &mut [u8], room: usize) -> Resu
     ensures faults_stay { S.faults source.old ≤ S.faults source.new }
     ensures failed { OnErr result (S.faults source.old < S.faults source.new) }
     ensures bound { IfOk result (λ n. n ≤ room) }
-    ensures bytes { ReadConsumes (S.left source.old) (S.left source.new) result (take room buffer.new) }
+    ensures bytes { ReadConsumes (S.left source.old) (S.left source.new) result
+        (take room buffer.new) }
 {
     source.read(&mut buffer[..room])
 }

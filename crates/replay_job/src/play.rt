@@ -119,7 +119,7 @@ pub fn replay_job<S: Source, K: Sink, L: Ledger>(
     // On 4, 5 and 6 a front of it is written.
     ensures stopped { (result.status ≡ 4) ⊎ (result.status ≡ 5) ⊎ (result.status ≡ 6)
         → PrintsFront trace (S.left source.old) (K.held sink.old) (K.held sink.new) }
-    // In the world that is answered, each client that has caught up with the room shows its document.
+    // In the world that is returned, each client that has caught up with the room shows its document.
     ensures caught_up { IfSome result.world (λ viewed. CaughtUpShowTheRoom viewed.world) }
 
     // So does each such client in what is printed on the way, wherever it is asked.

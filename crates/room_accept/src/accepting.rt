@@ -42,7 +42,8 @@ pub fn accept(
     ensures entry { IfOk result (λ accepted. IfSome accepted (λ a. a.entry
         ≡ entry_of (decided (schema_tree schema.now)) (member_of member.entry) records.now.0
         (push_of push.entry))) }
-    ensures suits { IfOk result (λ accepted. IfSome accepted (Suits (schema_tree schema.now) records.now.0)) }
+    ensures suits { IfOk result
+        (λ accepted. IfSome accepted (Suits (schema_tree schema.now) records.now.0)) }
 {
     let id = presence_id(alloc, member.session)?;
     let own = own_presence(alloc, schema, member, &id, push.presence)?;

@@ -16,7 +16,8 @@ pub(crate) fn action_of(
     pushed: &Option<Diff>,
     part: &Diff,
 ) -> Mem<Action>
-    ensures { IfOk result (λ action. action ≡ action_of (plan_of plan.now) (pushed_diff pushed.now) part.now) }
+    ensures { IfOk result (λ action. action
+        ≡ action_of (plan_of plan.now) (pushed_diff pushed.now) part.now) }
 {
     let Some(diff) = pushed else {
         return Ok(Action::Commit);

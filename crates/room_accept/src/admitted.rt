@@ -25,7 +25,9 @@ pub(crate) fn step_admitted(
     op: &RecordOp,
 ) -> Mem<Option<Option<Val>>>
     requires { IsStanding (schema_tree schema.now) id.now (maybe_data (option_copied record_)) }
-    ensures { IfOk result (λ left. option_map maybe_data left ≡ left_on (is_admitted (schema_tree schema.now)) id.now (change_of op.now) (maybe_data (option_copied record_.entry))) }
+    ensures { IfOk result (λ left. option_map maybe_data left
+        ≡ left_on (is_admitted (schema_tree schema.now)) id.now
+        (change_of op.now) (maybe_data (option_copied record_.entry))) }
 {
     let left = apply_record(alloc, record_, op)?;
     if acts(schema, id, record_, &left, op) {
@@ -37,9 +39,12 @@ pub(crate) fn step_admitted(
 
 // Whether an operation acts that makes this of an admitted record.
 fn acts(schema: &Schema, id: &str, before: Option<&Val>, left: &Option<Val>, op: &RecordOp) -> bool
-    requires left { maybe_data left.now ≡ raw (change_of op.now) (maybe_data (option_copied before)) }
-    requires admitted { IsStanding (schema_tree schema.now) id.now (maybe_data (option_copied before)) }
-    ensures { result ≡ acts_on (is_admitted (schema_tree schema.now)) id.now (change_of op.now) (maybe_data (option_copied before.entry)) }
+    requires left { maybe_data left.now
+        ≡ raw (change_of op.now) (maybe_data (option_copied before)) }
+    requires admitted { IsStanding (schema_tree schema.now) id.now
+        (maybe_data (option_copied before)) }
+    ensures { result ≡ acts_on (is_admitted (schema_tree schema.now)) id.now
+        (change_of op.now) (maybe_data (option_copied before.entry)) }
 {
     match op {
         RecordOp::Put(_) => true,

@@ -49,7 +49,8 @@ pub(crate) fn document_part(
 ) -> Mem<Part>
     requires size { size ≡ size_of (is_document (schema_tree schema.now)) records.now.0 }
     requires admitted { AreAdmitted (schema_tree schema.now) records.now.0 }
-    requires documents { member.readonly ≡ false → are_documents (schema_tree schema.now) (pushed_diff pushed.now) ≡ true }
+    requires documents { member.readonly ≡ false
+        → are_documents (schema_tree schema.now) (pushed_diff pushed.now) ≡ true }
     ensures diff { IfOk result (λ part. part.diff
         ≡ document_part (decided (schema_tree schema.now)) (member_of member.entry) records.now.0
         (pushed_diff pushed.now)) }
@@ -133,8 +134,11 @@ fn left_by(
     op: &RecordOp,
 ) -> Mem<Option<(Option<Val>, DocumentSize)>>
     requires { IsStanding (schema_tree schema.now) id.now (maybe_data (option_copied before)) }
-    ensures { IfOk result (λ left. let r = maybe_data (option_copied before.entry) in let taken = is_taken_in (schema_tree schema.now) size id.now (change_of op.now) r in
-        MatchOption left (taken ≡ false) (λ l. (taken ≡ true) × (maybe_data l.0 ≡ raw (change_of op.now) r) × (l.1 ≡ size_after size r (raw (change_of op.now) r)))) }
+    ensures { IfOk result (λ left. let r = maybe_data (option_copied before.entry) in
+        let taken = is_taken_in (schema_tree schema.now) size id.now (change_of op.now) r in
+        MatchOption left (taken ≡ false) (λ l. (taken ≡ true)
+        × (maybe_data l.0 ≡ raw (change_of op.now) r)
+        × (l.1 ≡ size_after size r (raw (change_of op.now) r)))) }
 {
     let Some(after) = step_admitted(alloc, schema, id, before, op)? else {
         return Ok(None);
@@ -159,7 +163,8 @@ fn added(
 ) -> Mem<Part>
     requires { AreRising (part.diff ++ (id.now, change_of op) ∷ []) }
     ensures diff { IfOk result (λ next. next.diff ≡ part.diff ++ (id.now, change_of op) ∷ []) }
-    ensures after { IfOk result (λ next. next.after.items ≡ part.after.items ++ (id.now, left.0) ∷ []) }
+    ensures after { IfOk result (λ next. next.after.items
+        ≡ part.after.items ++ (id.now, left.0) ∷ []) }
     ensures size { IfOk result (λ next. next.size ≡ left.1) }
 {
     let Part {

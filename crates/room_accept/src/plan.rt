@@ -32,7 +32,8 @@ impl SessionPlan {
         schema: &Schema,
         versions: &Serialized,
     ) -> Mem<Result<SessionPlan, EndReason>>
-        ensures { IfOk result (λ found. result_map_both plan_of (λ reason. reason) found ≡ plan_for (schema_tree schema.now) versions.now) }
+        ensures { IfOk result (λ found. result_map_both plan_of (λ reason. reason) found
+            ≡ plan_for (schema_tree schema.now) versions.now) }
     {
         match schema.sequences().since(alloc, versions) {
             Ok(plan) => {
@@ -56,14 +57,16 @@ impl SessionPlan {
 
     /// A record of the client's schema as the room's schema has it.
     pub fn raise(&self, alloc: Global, schema: &Schema, record_: &Val) -> Mem<Val>
-        ensures { IfOk result (λ v. data_of v ≡ raise (schema_tree schema.now) (plan_of self.now) (data_of record_.now)) }
+        ensures { IfOk result (λ v. data_of v
+            ≡ raise (schema_tree schema.now) (plan_of self.now) (data_of record_.now)) }
     {
         schema.sequences().up(alloc, &self.plan, record_)
     }
 
     /// A record of the room's schema as the client sees it.
     pub fn lower(&self, alloc: Global, schema: &Schema, record_: &Val) -> Mem<Val>
-        ensures { IfOk result (λ v. data_of v ≡ lower (schema_tree schema.now) (plan_of self.now) (data_of record_.now)) }
+        ensures { IfOk result (λ v. data_of v
+            ≡ lower (schema_tree schema.now) (plan_of self.now) (data_of record_.now)) }
     {
         schema.sequences().down(alloc, &self.plan, record_)
     }

@@ -101,9 +101,12 @@ pub(crate) fn with_presence(
     requires admitted { AreAdmitted (schema_tree schema.now) records.now.0 }
     requires own { option_map_or (λ c. is_put_admitted (decided (schema_tree schema.now)) id c)
         (maybe_change own) true ≡ true }
-    ensures diff { IfOk result (λ all. all.diff ≡ added part.diff id (option_and_then (own_part (schema_tree schema.now) records.now.0 id) (maybe_change own))) }
+    ensures diff { IfOk result (λ all. all.diff ≡ added part.diff id
+        (option_and_then (own_part (schema_tree schema.now) records.now.0 id) (maybe_change own))) }
     ensures part { IfOk result (IsPart (schema_tree schema.now) records.now.0) }
-    ensures presences { IfOk result (λ all. length (records_with (is_presence (schema_tree schema.now)) (fold_raw records.now.0 all.diff)) ≤ length (records_with (is_presence (schema_tree schema.now)) records.now.0) + 1) }
+    ensures presences { IfOk result (λ all. length (records_with
+        (is_presence (schema_tree schema.now)) (fold_raw records.now.0 all.diff))
+        ≤ length (records_with (is_presence (schema_tree schema.now)) records.now.0) + 1) }
 {
     let Some(op) = own else {
         return Ok(part);
@@ -123,7 +126,8 @@ fn own_left(
     op: &RecordOp,
 ) -> Mem<Option<Option<Val>>>
     requires { AreAdmitted (schema_tree schema.now) records.now.0 }
-    ensures { IfOk result (λ left. MatchOption left (own_part (schema_tree schema.now) records.now.0 id.now (change_of op.now) ≡ None)
+    ensures { IfOk result (λ left. MatchOption left
+        (own_part (schema_tree schema.now) records.now.0 id.now (change_of op.now) ≡ None)
         (IsOwnLeft (schema_tree schema.now) records.now.0 id.now (change_of op.now))) }
 {
     if let RecordOp::Remove = op {

@@ -22,8 +22,10 @@ impl DocumentSize {
     // The size after one of the records, or the lack of one, becomes another; each number is
     // 2^64 - 1 where it is more.
     pub(crate) fn after(self, before: Option<&Val>, after: &Option<Val>) -> DocumentSize
-        ensures count { result.count ≡ min (size_after self (maybe_data (option_copied before.entry)) (maybe_data after.now)).count (2 ^ 64 - 1) }
-        ensures weight { result.weight ≡ min (size_after self (maybe_data (option_copied before.entry)) (maybe_data after.now)).weight (2 ^ 64 - 1) }
+        ensures count { result.count ≡ min (size_after self
+            (maybe_data (option_copied before.entry)) (maybe_data after.now)).count (2 ^ 64 - 1) }
+        ensures weight { result.weight ≡ min (size_after self
+            (maybe_data (option_copied before.entry)) (maybe_data after.now)).weight (2 ^ 64 - 1) }
     {
         let after = after.as_ref();
         DocumentSize {

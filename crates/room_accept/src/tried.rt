@@ -42,7 +42,10 @@ fn raised(
     op: &RecordOp,
     before: Option<&Val>,
 ) -> Mem<RecordOp>
-    ensures { IfOk result (λ o. change_of o ≡ raise_op (raise (schema_tree schema.now) (plan_of plan.now)) (lower (schema_tree schema.now) (plan_of plan.now)) (change_of op.now) (maybe_data (option_copied before.entry))) }
+    ensures { IfOk result (λ o. change_of o
+        ≡ raise_op (raise (schema_tree schema.now) (plan_of plan.now))
+        (lower (schema_tree schema.now) (plan_of plan.now))
+        (change_of op.now) (maybe_data (option_copied before.entry))) }
 {
     match op {
         RecordOp::Put(val) => Ok(RecordOp::Put(plan.raise(alloc, schema, val)?)),
@@ -62,7 +65,10 @@ fn raised_patch(
     op: &RecordOp,
     before: &Val,
 ) -> Mem<RecordOp>
-    ensures { IfOk result (λ o. change_of o ≡ on_put (raise (schema_tree schema.now) (plan_of plan.now)) (as_put (change_of op.now) (Some (lower (schema_tree schema.now) (plan_of plan.now) (data_of before.now))))) }
+    ensures { IfOk result (λ o. change_of o
+        ≡ on_put (raise (schema_tree schema.now) (plan_of plan.now))
+        (as_put (change_of op.now)
+        (Some (lower (schema_tree schema.now) (plan_of plan.now) (data_of before.now))))) }
 {
     let seen = plan.lower(alloc, schema, before)?;
     match apply_record(alloc, Some(&seen), op)? {

@@ -118,11 +118,14 @@ impl RoomHistory {
         clock: i64,
         steps: &mut Steps<L>,
     ) -> Mem<Vec<Change>>
-        ensures since { IfOk result (λ found. AreSince (listed self.now.kept.changes) clock found.items) }
+        ensures since { IfOk result (λ found.
+            AreSince (listed self.now.kept.changes) clock found.items) }
         ensures rising { IfOk result (λ found. IsSortedBy is_below found.items) }
         ensures changed { IfOk result (λ found. (first : ℕ) (history : History) (known : ℕ)
             → Keeps first history self.now.kept → clock ≡ pos known → start_of first history ≤ known
-            → IsPermutation {X = List ℕ × ℤ} (map (λ p. (p.0, pos p.1)) (changed_after known history)) (map (λ c. (c.id, c.clock)) found.items)) }
+            → IsPermutation {X = List ℕ × ℤ}
+            (map (λ p. (p.0, pos p.1)) (changed_after known history))
+            (map (λ c. (c.id, c.clock)) found.items)) }
         ensures ticked { IfOk result (λ found. steps.new ≡ steps.old + (length found.items + 1)) }
     {
         self.kept.changes.since(alloc, clock, steps)
@@ -148,7 +151,8 @@ impl RoomHistory {
         ensures entry { IfOk result (λ accepted. IfSome accepted (λ a. a.entry
             ≡ entry_of (decided (schema_tree self.now.kept.schema)) (member_of member.entry)
             self.now.kept.records.0 (push_of push.entry))) }
-        ensures suits { IfOk result (λ accepted. IfSome accepted (Suits (schema_tree self.now.kept.schema) self.now.kept.records.0)) }
+        ensures suits { IfOk result (λ accepted. IfSome accepted
+            (Suits (schema_tree self.now.kept.schema) self.now.kept.records.0)) }
     {
         let kept = &self.kept;
         accept(alloc, &kept.schema, &kept.records, kept.size, member, push)
@@ -170,8 +174,11 @@ impl RoomHistory {
     ) -> Mem<()>
         requires suits { Suits (schema_tree self.old.kept.schema) self.old.kept.records.0 accepted }
         requires below { self.old.kept.clock <ℤ pos (2 ^ 53) }
-        ensures ok { OnOk result ((first : ℕ) (history : History) → Keeps first history self.old.kept → Keeps first (accepted.entry ∷ history) self.new.kept) }
-        ensures err { OnErr result ((first : ℕ) (history : History) → Keeps first history self.old.kept → Keeps first history self.new.kept) }
+        ensures ok { OnOk result ((first : ℕ) (history : History)
+            → Keeps first history self.old.kept
+            → Keeps first (accepted.entry ∷ history) self.new.kept) }
+        ensures err { OnErr result ((first : ℕ) (history : History)
+            → Keeps first history self.old.kept → Keeps first history self.new.kept) }
         ensures schema { self.new.kept.schema ≡ self.old.kept.schema }
         ensures ticks { steps.new ≤ steps.old + length accepted.entry.diff }
     {
@@ -182,9 +189,11 @@ impl RoomHistory {
     /// removed ids where too many are remembered. It tells whether the presence was there, and takes
     /// no memory.
     pub fn remove_presence(&mut self, removal: Removal) -> bool
-        ensures was_there { result ≡ is_some (value_at self.old.kept.records.0 (presence_id removal.session)) }
+        ensures was_there { result
+            ≡ is_some (value_at self.old.kept.records.0 (presence_id removal.session)) }
         ensures keeps { (first : ℕ) (history : History) → Keeps first history self.old.kept
-            → Keeps first (if result then rooms.removal removal.session ∷ history else history) self.new.kept }
+            → Keeps first
+            (if result then rooms.removal removal.session ∷ history else history) self.new.kept }
         ensures schema { self.new.kept.schema ≡ self.old.kept.schema }
     {
         self.kept.remove_presence(removal)

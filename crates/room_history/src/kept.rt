@@ -52,8 +52,10 @@ impl Kept {
         requires sound { ∥ KeepsSome self.old ∥₁ }
         requires suits { Suits (schema_tree self.old.schema) self.old.records.0 accepted }
         requires below { self.old.clock <ℤ pos (2 ^ 53) }
-        ensures ok { OnOk result ((first : ℕ) (history : History) → Keeps first history self.old → Keeps first (accepted.entry ∷ history) self.new) }
-        ensures err { OnErr result ((first : ℕ) (history : History) → Keeps first history self.old → Keeps first history self.new) }
+        ensures ok { OnOk result ((first : ℕ) (history : History) → Keeps first history self.old
+            → Keeps first (accepted.entry ∷ history) self.new) }
+        ensures err { OnErr result ((first : ℕ) (history : History) → Keeps first history self.old
+            → Keeps first history self.new) }
         ensures schema { self.new.schema ≡ self.old.schema }
         ensures ticks { steps.new ≤ steps.old + length accepted.entry.diff }
     {
@@ -75,9 +77,11 @@ impl Kept {
     pub(crate) fn remove_presence(&mut self, removal: Removal) -> bool
         requires sound { ∥ KeepsSome self.old ∥₁ }
         requires presence { HasPresences (schema_tree self.old.schema) }
-        ensures was_there { result ≡ is_some (value_at self.old.records.0 (presence_id removal.session)) }
+        ensures was_there { result
+            ≡ is_some (value_at self.old.records.0 (presence_id removal.session)) }
         ensures keeps { (first : ℕ) (history : History) → Keeps first history self.old
-            → Keeps first (if result then rooms.removal removal.session ∷ history else history) self.new }
+            → Keeps first
+            (if result then rooms.removal removal.session ∷ history else history) self.new }
         ensures schema { self.new.schema ≡ self.old.schema }
     {
         if !take(&mut self.records, removal.id.as_str()) {

@@ -40,7 +40,8 @@ impl RoomHistory {
         requires last { last ≤ℤ pos (2 ^ 53) }
         ensures fault { IfErr result (λ e. e ≢ OutOfMemory
             → load_fault (decided (schema_tree schema)) last saved ≡ Some e) }
-        ensures fits { IfOk result (λ h. load_fault (decided (schema_tree schema)) last saved ≡ None) }
+        ensures fits { IfOk result (λ h.
+            load_fault (decided (schema_tree schema)) last saved ≡ None) }
         ensures keeps { IfOk result (λ h. Keeps (nat_abs saved.start) (begun saved) h.kept) }
         ensures schema { IfOk result (λ h. h.kept.schema ≡ schema) }
     {

@@ -25,9 +25,11 @@ pub(crate) fn marks(alloc: Global, left: &[(Text, Option<Val>)]) -> Mem<Vec<(Tex
 pub(crate) fn mark_all(changes: &mut ChangeList, marks: Vec<(Text, bool)>, clock: i64)
     requires rising { AreRising marks.items }
     requires latest { AreUpTo clock (listed changes.old) }
-    requires live { IsTrue (list_all (λ mark. mark.1 || is_listed changes.old.live mark.0) marks.items) }
+    requires live { IsTrue (list_all
+        (λ mark. mark.1 || is_listed changes.old.live mark.0) marks.items) }
     requires spare { length marks.items ≤ changes.old.spare }
-    ensures lists { (changes.new.live, changes.new.dead) ≡ mark_all clock marks.items (changes.old.live, changes.old.dead) }
+    ensures lists { (changes.new.live, changes.new.dead)
+        ≡ mark_all clock marks.items (changes.old.live, changes.old.dead) }
     ensures start { changes.new.start ≡ changes.old.start }
 {
     'marks: for (id, live) in marks {
@@ -40,7 +42,8 @@ fn mark_one(changes: &mut ChangeList, id: Text, live: bool, clock: i64)
     requires latest { AreUpTo clock (listed changes.old) }
     requires live { IsTrue (live || is_listed changes.old.live id) }
     requires spare { 0 < changes.old.spare }
-    ensures lists { (changes.new.live, changes.new.dead) ≡ mark_one clock id live (changes.old.live, changes.old.dead) }
+    ensures lists { (changes.new.live, changes.new.dead)
+        ≡ mark_one clock id live (changes.old.live, changes.old.dead) }
     ensures start { changes.new.start ≡ changes.old.start }
     ensures spare { changes.old.spare ≤ changes.new.spare + 1 }
 {

@@ -27,7 +27,9 @@ pub(crate) fn remember(
     entry: Entry,
     after: Vec<(Text, Option<Val>)>,
 )
-    ensures items { map recent_tree recent.new.items ≡ keep_last recent.old.capacity (map recent_tree recent.old.items ++ record { clock = clock; entry = entry; after = seen maybe_data after.items } ∷ []) }
+    ensures items { map recent_tree recent.new.items
+        ≡ keep_last recent.old.capacity (map recent_tree recent.old.items
+        ++ record { clock = clock; entry = entry; after = seen maybe_data after.items } ∷ []) }
     ensures capacity { recent.new.capacity ≡ recent.old.capacity }
 {
     let _ = recent.push_back(RecentEntry {

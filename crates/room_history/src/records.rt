@@ -17,7 +17,8 @@ pub(crate) fn write_all<L: Ledger>(
     steps: &mut Steps<L>,
 ) -> Mem<()>
     requires { records.old.1 ≡ [] }
-    ensures ok { OnOk result (records.new ≡ (set_all records.old.0 (seen maybe_data left.now), [])) }
+    ensures ok { OnOk result (records.new
+        ≡ (set_all records.old.0 (seen maybe_data left.now), [])) }
     ensures err { OnErr result (records.new ≡ records.old) }
     ensures ticks { steps.new ≤ steps.old + length left.now }
 {
@@ -35,7 +36,8 @@ fn write_begun<L: Ledger>(
     steps: &mut Steps<L>,
 ) -> Mem<()>
     requires { records.old.1 ≡ records.old.0 ∷ [] }
-    ensures ok { OnOk result (records.new ≡ (set_all records.old.0 (seen maybe_data left.now), [])) }
+    ensures ok { OnOk result (records.new
+        ≡ (set_all records.old.0 (seen maybe_data left.now), [])) }
     ensures err { OnErr result (records.new ≡ (records.old.0, [])) }
     ensures ticks { steps.new ≤ steps.old + length left.now }
 {

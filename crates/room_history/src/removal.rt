@@ -25,8 +25,10 @@ pub struct Removal {
     pub(crate) diff: Diff,
     pub(crate) after: Vec<(Text, Option<Val>)>,
     ghost id_is: { id ≡ presence_id session },
-    ghost diff_is: { diff ≡ (id, remove) ∷ [] } by { Coded-set coded_changes diff ((id, remove) ∷ []) },
-    ghost after_is: { seen maybe_data after.items ≡ (id, None) ∷ [] } by { Coded-set coded_slots (seen maybe_data after.items) ((id, None) ∷ []) },
+    ghost diff_is: { diff ≡ (id, remove) ∷ [] } by { Coded-set coded_changes diff
+        ((id, remove) ∷ []) },
+    ghost after_is: { seen maybe_data after.items ≡ (id, None) ∷ [] } by { Coded-set coded_slots
+        (seen maybe_data after.items) ((id, None) ∷ []) },
 }
 
 impl Removal {

@@ -1,4 +1,4 @@
--- For which client of the definitions a client of the code stands, and how its calls answer.
+-- For which client of the definitions a client of the code stands, and what its calls return.
 use Rattle.std.specs.Prelude.{◌≡◌, List, ℕ, map, Some, Result, Ok, Err}
 use Rattle.std.specs.Global.{Vec}
 use Rattle.fault_texts.specs.Texts.{step_fault_text}

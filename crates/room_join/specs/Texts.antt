@@ -1,4 +1,4 @@
--- The text of why a client doesn't take what comes over its link. Want of memory has none.
+-- The text of why a client doesn't take what comes over its link. `OutOfMemory` alone has none.
 use Rattle.std.specs.Prelude.{ℕ, List, codes, Option, Some, None}
 use Rattle.fault_texts.specs.Texts.{val_fault_text}
 use Rattle.link_texts.specs.declared.fault.WireFault.{WireFault}

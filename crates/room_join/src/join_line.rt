@@ -30,7 +30,8 @@ pub enum JoinLine {
 impl JoinLine {
     /// The text of the line, with its newline. It costs what is printed.
     pub fn print(&self, alloc: Global) -> Mem<Vec<u8>>
-        ensures { IfOk result (λ text. text.items ≡ written_line (fields_text (line_fields self.now))) }
+        ensures { IfOk result (λ text. text.items
+            ≡ written_line (fields_text (line_fields self.now))) }
     {
         let mut text = self.text(alloc)?;
         text.push(b'\n')?;

@@ -292,7 +292,7 @@ fn new_peer(alloc: Global, version: u32) -> Mem<Peer>
     }
 }
 
-// A client that did nothing asks to be connected: its first request has the number 0. Nothing but want of memory hinders it.
+// A client that did nothing asks to be connected: its first request has the number 0. It fails only where memory runs out.
 fn ask(alloc: Global, peer: &mut Peer) -> Mem<ClientMessage>
     ensures asked { IfOk result (λ said. (schemas : WorldSchemas EditFault) (held : Held)
         → peer_of.Stands schemas held peer.old

@@ -22,14 +22,14 @@ Tells made old None = ⊤
 Tells made None (Some new) = ⊥
 Tells made (Some old) (Some new) = made old new
 
--- what is given was the next to come, the end is given where nothing is left, and a call without an answer takes nothing
+-- what is given was the next to come, the end is given where nothing is left, and a call that returns no value takes nothing
 abbrev pub Takes : Result Incoming Stop → Exchange → Exchange → Type 0
 Takes (Ok (gives.Text bytes)) old new = old ≡ record new { left = text bytes.items ∷ new.left }
 Takes (Ok gives.Idle) old new = old ≡ record new { left = idle ∷ new.left }
 Takes (Ok gives.End) old new = (old.left ≡ []) × (new ≡ old)
 Takes (Err stop) old new = new ≡ old
 
--- what was to be sent went out behind the rest, and nothing where the call gave no answer
+-- what was to be sent went out behind the rest, and nothing where the call returned no value
 abbrev pub Sends : {A : Type 0} → Result A Stop → Outgoing → Exchange → Exchange → Type 0
 Sends (Ok done) what old new = new ≡ record old { sent = old.sent ++ what ∷ [] }
 Sends (Err stop) what old new = new ≡ old

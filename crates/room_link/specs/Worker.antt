@@ -8,7 +8,7 @@ pub record Worker (L : Type 0) : Type 0 where
   -- those that were given back, the oldest first
   pub returned : List L
 
--- the link that is handed out was the next, none is handed out where none is left, and without an answer none is lost
+-- the link that is handed out was the next, none is handed out where none is left, and a call that returns no value loses none
 abbrev pub Accepts : {L : Type 0} → Result (Option L) Stop → Worker L → Worker L → Type 0
 Accepts (Ok (Some link)) old new = old ≡ record new { left = link ∷ new.left }
 Accepts (Ok None) old new = (old.left ≡ []) × (new ≡ old)

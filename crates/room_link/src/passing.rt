@@ -35,7 +35,7 @@ pub enum Outgoing {
     Close(EndReason),
 }
 
-/// Why a call on a link, or on what accepts links, gave no answer.
+/// Why a call on a link, or on what accepts links, returned no value.
 #[derive(Clone, Copy, Debug, PartialEq, Eq, Error)]
 pub enum Stop {
     /// A fault, and the count of faults of what was called rose.

@@ -12,7 +12,7 @@ pub trait Sink {
     /// The bytes that the sink has taken so far, in order, or `None` where it doesn't tell.
     ghost held: { Self → Option (List ℕ) };
 
-    /// Takes bytes from the front of `bytes`, and answers how many: at least one where there is one.
+    /// Takes bytes from the front of `bytes`, and returns how many: at least one where there is one.
     ///
     /// # Errors
     ///

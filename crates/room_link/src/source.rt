@@ -12,7 +12,7 @@ pub trait Source {
     /// The bytes that are left to be read, or `None` where the source doesn't tell.
     ghost left: { Self → Option (List ℕ) };
 
-    /// Reads bytes into the front of `buf`, and answers how many; 0 for a buffer that isn't empty
+    /// Reads bytes into the front of `buf`, and returns how many; 0 for a buffer that isn't empty
     /// is the end of input. What `buf` has behind those bytes is left open.
     ///
     /// # Errors

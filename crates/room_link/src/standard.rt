@@ -25,8 +25,8 @@ pub struct StandardOutput<W> {
     faults: u64,
 }
 
-/// Counts a fault and answers it. A count at its end stands still; the call then answers
-/// `past_end`, since no fault is answered that isn't counted.
+/// Counts a fault and returns it. A count at its end stands still. The call then returns
+/// `past_end`, since no fault is returned that isn't counted.
 fn counted<T: Drop>(faults: &mut u64, past_end: T) -> Result<T, Failed>
     ensures err { OnErr result (faults.new ≡ faults.old + 1) }
     ensures ok { IfOk result (λ value. (value ≡ past_end) × (faults.new ≡ faults.old)) }
@@ -57,9 +57,10 @@ impl<R: Read> Source for StandardInput<R> {
 
     /// After 2^64 − 1 faults, which is the end of the count, a fault is the end of input.
     fn read(&mut self, buf: &mut [u8]) -> Result<usize, Failed>
-        // What the reader tells of the read holds of the answer.
+        // What the reader tells of the read holds of the result.
         ensures given { source_faults self.old < u64.MAX
-            → ReadConsumes (R.remaining (reader_of self.old)) (R.remaining (reader_of self.new)) result buf.new }
+            → ReadConsumes (R.remaining (reader_of self.old)) (R.remaining (reader_of self.new))
+            result buf.new }
 
         // As at any source.
         ensures faults_stay { source_faults self.old ≤ source_faults self.new }
@@ -90,9 +91,10 @@ impl<W: Write> Sink for StandardOutput<W> {
 
     /// After 2^64 − 1 faults, which is the end of the count, bytes that can't be written are let go.
     fn write(&mut self, bytes: &[u8]) -> Result<usize, Failed>
-        // What the writer tells of the write holds of the answer.
+        // What the writer tells of the write holds of the result.
         ensures given { sink_faults self.old < u64.MAX
-            → WriteAppends (W.contents (writer_of self.old)) (W.contents (writer_of self.new)) result bytes.now }
+            → WriteAppends (W.contents (writer_of self.old)) (W.contents (writer_of self.new))
+            result bytes.now }
 
         // As at any sink.
         ensures faults_stay { sink_faults self.old ≤ sink_faults self.new }

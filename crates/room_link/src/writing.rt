@@ -14,7 +14,8 @@ pub fn write_all<K: Sink>(sink: &mut K, bytes: &[u8]) -> Result<(), Failed>
     ensures faults_stay { K.faults sink.old ≤ K.faults sink.new }
     ensures failed { OnErr result (K.faults sink.old < K.faults sink.new) }
     ensures held { OnOk result (Extends (K.held sink.old) (K.held sink.new) bytes.now) }
-    ensures front { OnErr result ((n : ℕ) × Extends (K.held sink.old) (K.held sink.new) (take n bytes.now)) }
+    ensures front { OnErr result ((n : ℕ)
+        × Extends (K.held sink.old) (K.held sink.new) (take n bytes.now)) }
 {
     let mut at = 0;
     'writes: while at < bytes.len() {

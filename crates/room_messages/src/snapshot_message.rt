@@ -169,7 +169,8 @@ fn changed_documents<L: Ledger>(
 
 // Puts of all records of the document.
 fn all_documents(alloc: Global, room: &RoomHistory, plan: &SessionPlan) -> Mem<Diff>
-    ensures { IfOk result (λ diff. (first : ℕ) (history : History) → Keeps first history room.now.kept
+    ensures { IfOk result (λ diff. (first : ℕ) (history : History)
+        → Keeps first history room.now.kept
         → diff ≡ with_puts (decided_by room.now.kept) (plan_of plan.now)
         (doc (decided_by room.now.kept) (records_of history)) []) }
 {

@@ -10,7 +10,8 @@ ghost use Rattle.sync_msgs.specs.declared.data_event.Action.TheVariants.{Commit}
 /// Folding what is accepted of a diff is the step by what is accepted: each operation acts.
 pub fn accepts_by_step()
     ensures { (schemas : Schemas) (plan : Plan) (m : Pairs) (diff : RecordOps)
-        → fold_raw m (accept_ops schemas plan m diff) ≡ step schemas.admits m (accept_ops schemas plan m diff) }
+        → fold_raw m (accept_ops schemas plan m diff)
+        ≡ step schemas.admits m (accept_ops schemas plan m diff) }
 {}
 
 /// The action of a push is a commit exactly if its diff has no operation, or the session isn't read-only, has the room's
@@ -18,5 +19,6 @@ pub fn accepts_by_step()
 pub fn commits_exactly()
     ensures { (schemas : Schemas) (member : Member) (m : Pairs) (diff : RecordOps)
         → (action_of member.plan diff (document_part schemas member m diff) ≡ Commit)
-        ↔ ((diff ≡ []) ⊎ ((member.readonly ≡ false) × (member.plan ≡ []) × (accept_ops schemas member.plan m diff ≡ diff))) }
+        ↔ ((diff ≡ []) ⊎ ((member.readonly ≡ false) × (member.plan ≡ [])
+        × (accept_ops schemas member.plan m diff ≡ diff))) }
 {}

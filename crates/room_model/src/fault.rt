@@ -24,17 +24,17 @@ pub enum StepFault<F: Drop> {
     NothingThere,
     /// The edit or the presence is refused.
     Edit(F),
-    /// The client can't connect; this is never want of memory.
+    /// The client can't connect; the cause is never `OutOfMemory`.
     Connect(ConnectFault),
     /// The client has no mark of this name.
     NoMark,
-    /// There is no place for a further client or session.
+    /// There is no place for a further client, a further session, or a further watch of the client.
     Limit,
-    /// There is no copy of these shapes; this is never want of memory.
+    /// There is no copy of these shapes; the cause is never `OutOfMemory`.
     Clip(ClipFault),
     /// The client has copied nothing.
     NoClip,
-    /// What the client copied isn't pasted; this is never want of memory.
+    /// What the client copied isn't pasted; the cause is never `OutOfMemory`.
     Paste(PasteFault),
     /// Memory ran out.
     OutOfMemory,

@@ -9,7 +9,8 @@ ghost use Rattle.room_model.specs.declared.limits.TheConstants.{MOST_DEAD};
 pub fn start_never_falls()
     ensures rises { (first : ℕ) (entry : Entry) (history : History)
         → start_of first history ≤ start_of first (entry ∷ history) }
-    ensures within { (first : ℕ) (history : History) → start_of first history ≤ max first (length history) }
+    ensures within { (first : ℕ) (history : History)
+        → start_of first history ≤ max first (length history) }
 {}
 
 /// A room remembers at most 3,000 removed ids.

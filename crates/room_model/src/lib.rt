@@ -3,9 +3,12 @@
 //! between them, and what is printed.
 //!
 //! What schemas decide is an argument of all of them, so that they hold at any version: what the room's schema does is one
-//! of rooms, and what it and those of clients do one of worlds. The crate has definitions in `specs/`, the types that they
-//! share with the code, and laws as functions without code. It stands on `rooms_val`, `index_keys`, `field_ops`,
-//! `doc_model`, `migrate_seq` and `sync_msgs`.
+//! of rooms, and what it and those of clients do one of worlds. The crate has definitions in `specs/`, the types and the
+//! limits that they share with the code, and laws as functions without code. Of the types `IdList` has calls, which take no
+//! memory; `ClipFault`, `PasteFault` and `LoadFault` can be made of an `OutOfMemory`, and have a text.
+//!
+//! The crate stands on `rooms_val`, `index_keys`, `field_ops`, `record_valid`, `doc_model`, `migrate_steps`, `migrate_seq`
+//! and `sync_msgs`, and on `thiserror` for the text of faults.
 #![tactic(auto)]
 
 pub mod accepting;

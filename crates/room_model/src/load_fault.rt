@@ -23,7 +23,7 @@ pub enum LoadFault {
     /// more than 3,000 removed ids.
     #[error("the saved room is too large")]
     TooLarge,
-    /// Memory was refused. It may come in place of any answer.
+    /// Memory was refused. It may come in place of any result.
     #[error("out of memory")]
     OutOfMemory,
 }

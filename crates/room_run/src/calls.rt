@@ -21,13 +21,13 @@ use sync_msgs::{ClientMessage, Out};
 use sync_room::EnterFault;
 
 impl RunningRoom {
-    /// Lets a session enter, which may be read-only: then the room looks at no diff of its pushes. It may wait for the turn, and costs
-    /// a copy of one small event. It takes the memory that `leave` needs.
+    /// Lets a session enter, which may be read-only: then the room looks at no diff of its pushes. It may wait for the turn,
+    /// and costs a copy of one small event. It takes the memory that `leave` needs.
     ///
     /// # Errors
     ///
-    /// `Full` exactly if 64 sessions were in the room when this caller had its turn, or 2^53 - 1 had entered; what the `Gone` has seen
-    /// shows it. `OutOfMemory` if memory was refused; then nothing has happened.
+    /// `Full` exactly if 64 sessions were in the room when this caller had its turn, or 2^53 - 1 had entered; what the
+    /// `Gone` has seen shows it. `OutOfMemory` if memory was refused; then nothing has happened.
     pub fn pass<R: Wait>(&self, rt: &R, readonly: bool) -> Result<Pass, PassFault>
         ensures own { IfOk result (λ pass. room_of pass ≡ id_of self.now) }
         ensures entered { IfOk result (λ pass.
@@ -52,9 +52,9 @@ impl RunningRoom {
         }
     }
 
-    /// In one turn, gives the room a message of the pass's session, and the session all that there is for it: what was given, in
-    /// order. It may wait for the turn. It costs what `Room::handle` and `Room::drain` cost, and a copy of the message and of what is
-    /// given.
+    /// In one turn, gives the room a message of the pass's session, and the session all that there is for it: what was
+    /// given, in order. It may wait for the turn. It costs what `Room::handle` and `Room::drain` cost, and a copy of the
+    /// message and of what is given.
     ///
     /// # Errors
     ///
@@ -68,7 +68,8 @@ impl RunningRoom {
             (Message pass.old.session message.now reply ∷ given_all pass.old.session outs.items)) }
         ensures err { OnErr result ((events : List RoomEvent)
             × IsBegun pass.old.session message.now events
-            × Acts (opening_of self.now) pass.old.session (view_of pass.old) (view_of pass.new) events) }
+            × Acts (opening_of self.now) pass.old.session (view_of pass.old)
+            (view_of pass.new) events) }
     {
         let mut seat: Place = mem::replace(&mut pass.badge, Badge::blank()).into_seat();
         let held = self.take(rt, &mut seat);
@@ -78,9 +79,9 @@ impl RunningRoom {
         outs
     }
 
-    /// In one turn, gives the pass's session all that there is for it: what was given, in order. If there is nothing, nothing
-    /// happens. After what the pass has seen then, the room has nothing more for the session. It may wait for the turn. It costs
-    /// what `Room::drain` costs, and a copy of what is given.
+    /// In one turn, gives the pass's session all that there is for it: what was given, in order. If there is nothing,
+    /// nothing happens. After what the pass has seen then, the room has nothing more for the session. It may wait for the
+    /// turn. It costs what `Room::drain` costs, and a copy of what is given.
     ///
     /// # Errors
     ///

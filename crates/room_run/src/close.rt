@@ -25,11 +25,12 @@ pub struct Closed {
 }
 
 impl RunningRoom {
-    /// Closes the room, with those that have left. Of a pass that isn't handed in nothing is said; its session may still be in the
-    /// room. It may wait for the turn. It takes no memory, and costs a step for each that is handed in.
+    /// Closes the room, with those that have left. Of a pass that isn't handed in nothing is said; its session may still be
+    /// in the room. It may wait for the turn. It takes no memory, and costs a step for each that is handed in.
     pub fn close<R: Wait>(self, rt: &R, gone: Vec<Gone>) -> Closed
         requires own { All (λ g. room_of_gone g ≡ id_of self) gone.items }
-        ensures legal { Legal (schemas_of (opening_of self)) (last_of (opening_of self)) result.pen }
+        ensures legal { Legal (schemas_of (opening_of self))
+            (last_of (opening_of self)) result.pen }
         ensures room { Stands (room_after (story (opening_of self) result.pen)) result.room }
         ensures schema { decided (tree_of result.room) ≡ schemas_of (opening_of self) }
         ensures ends { AllEndBy result.pen gone.items }

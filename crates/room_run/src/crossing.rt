@@ -3,8 +3,8 @@ use crate::close::Closed;
 use crate::passes::{Gone, Pass};
 use crate::running::RunningRoom;
 
-/// Threads may share a running room. It, its passes, what becomes of them, and what the room was may each go to another thread. The
-/// calls are checked, and do nothing.
+/// Threads may share a running room. It, its passes, what becomes of them, and what the room was may each go to another
+/// thread. The calls are checked, and do nothing.
 pub fn may_cross_threads() {
     is_shared::<RunningRoom>();
     is_sent::<RunningRoom>();

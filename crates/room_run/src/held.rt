@@ -23,7 +23,8 @@ use std::snapshot::Snapshot;
 use sync_msgs::{ClientMessage, Out};
 use sync_room::{EnterFault, Room};
 
-// A room and its pen. Contracts see the pen and the room as it was opened. Each call of the room is stored in the pen at once.
+// A room and its pen. Contracts see the pen and the room as it was opened. Each call of the room is stored in the pen at
+// once.
 #[derive(Drop)]
 pub(crate) struct Held {
     // The room as it was opened.
@@ -84,7 +85,8 @@ impl Held {
 
     // A session enters, with the number that is next.
     pub(crate) fn enter(&mut self, alloc: Global, readonly: bool) -> Result<u64, EnterFault>
-        ensures entered { IfOk result (λ number. self.new ≡ longer self.old (Enter number readonly)) }
+        ensures entered { IfOk result (λ number. self.new
+            ≡ longer self.old (Enter number readonly)) }
         ensures new { IfOk result (λ number. events_of number self.old.pen ≡ []) }
         ensures full { result ≡ Err fault.Full → is_full (room_after self.old) ≡ true }
         ensures err { OnErr result (self.new ≡ self.old) }
@@ -118,8 +120,8 @@ impl Held {
         Ok(())
     }
 
-    // A session that is inside is given what is next for it. The answer has a copy of that, or none if memory for it was refused; it is
-    // none if there is nothing, and then nothing happens.
+    // A session that is inside is given what is next for it. Returns a copy of that, or that memory for the copy was
+    // refused. Returns `None` if there is nothing, and then nothing happens.
     pub(crate) fn drain(&mut self, alloc: Global, number: u64) -> Mem<Option<Mem<Out>>>
         requires inside { IsInside number self.old.pen }
         ensures ok { IfOk result (λ given. MatchOption given

@@ -39,7 +39,8 @@ pub(crate) fn handle(
     ensures step { IfOk result (λ reply. (state : model.Room) → Stands state room.old
         → Replies (after_message (decided (tree_of room.old)) state session.number message.now)
         reply room.new) }
-    ensures err { OnErr result ((state : model.Room) → Stands state room.old → Stands state room.new) }
+    ensures err { OnErr result ((state : model.Room) → Stands state room.old
+        → Stands state room.new) }
     ensures schema { tree_of room.new ≡ tree_of room.old }
     ensures rises { IsRising message.now }
 {
@@ -60,7 +61,8 @@ fn handle_in<L: Ledger>(
     ensures step { IfOk result (λ reply. (state : model.Room) → Stands state room.old
         → Replies (after_message (decided (tree_of room.old)) state session.number message.now)
         reply room.new) }
-    ensures err { OnErr result ((state : model.Room) → Stands state room.old → Stands state room.new) }
+    ensures err { OnErr result ((state : model.Room) → Stands state room.old
+        → Stands state room.new) }
     ensures schema { tree_of room.new ≡ tree_of room.old }
     ensures rises { IsRising message.now }
 {

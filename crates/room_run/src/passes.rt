@@ -6,8 +6,8 @@ ghost use Rattle.room_run.specs.Views.{view_among};
 use crate::views::View;
 use atomic_table::Badge;
 
-/// A session of a room, for one thread at a time. It knows the part of the room's history that it has seen, and the events that it
-/// made. A pass that is dropped doesn't leave: its session stays in the room.
+/// A session of a room, for one thread at a time. It knows the part of the room's history that it has seen, and the events
+/// that it made. A pass that is dropped doesn't leave: its session stays in the room.
 #[derive(Drop)]
 pub struct Pass {
     // The number of its session.

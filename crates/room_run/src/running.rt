@@ -30,7 +30,8 @@ pub(crate) const COUNT: usize = 0;
 
 const TURN: usize = 1;
 
-// How often a caller tries to take the turn before it sleeps.
+// How often a caller yields before it sleeps. The caller tries to take the turn before each of these yields, and once more
+// after the last: it tries 17 times before it sleeps. After a sleep it tries once before it sleeps again.
 const TRIES: u32 = 16;
 
 /// A room that several threads call. It keeps its whole history until it is closed.

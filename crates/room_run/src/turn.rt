@@ -104,7 +104,8 @@ impl RunningRoom {
         requires ready { IsReady number seat.old.me held }
         ensures own { seat.new.table_id ≡ seat.old.table_id }
         ensures ready { IsReady number seat.new.me result.0 }
-        ensures ok { IfOk result.1 (λ outs. Added seat.old.me.0 seat.new.me.0 (given number outs.items)
+        ensures ok { IfOk result.1 (λ outs.
+            Added seat.old.me.0 seat.new.me.0 (given number outs.items)
             × IsDrained number result.0) }
         ensures err { OnErr result.1 ((lost : List Out)
             × Added seat.old.me.0 seat.new.me.0 (given number lost)) }

@@ -1,5 +1,5 @@
-//! What passes know, and what is in a room's slot, as contracts see it. No value of these types is made: the views are those of a
-//! table's seats.
+//! What passes know, and what is in a room's slot, as contracts see it. No value of these types is made: the views are those
+//! of a table's seats.
 use room_events::RoomEvent;
 use std::collections::LinkedList;
 use std::snapshot::Snapshot;

@@ -22,7 +22,7 @@ pub record IsOpen (account : Account) : Type 0 where
   pub memory : account.memory ≡ false
   pub ended : account.sent.ended ≡ None
 
--- a call on the link gave no answer
+-- a call on the link returned no value, for this cause
 abbrev pub stopped : Stop → Account → Account
 stopped Failed account = record account { fault = true }
 stopped OutOfMemory account = record account { memory = true }

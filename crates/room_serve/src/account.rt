@@ -17,8 +17,8 @@ use sync_msgs::{EndReason, Out};
 /// A `Report` tells it once the service has ended.
 ///
 /// The service goes on as long as no text was refused, the link had no fault and wasn't closed, and
-/// memory wasn't refused. No call on an account answers an error: where a call on the link gives no
-/// answer, the cause is noted in `fault` or in `memory`.
+/// memory wasn't refused. No call on an account returns an error: a fault of the link is noted, and so
+/// is that memory was refused.
 #[derive(Clone, Copy, Debug, PartialEq, Eq)]
 pub struct Account {
     // How many texts came, the one that names the room among them, from 0. It stays at 2^64 - 1.
@@ -66,7 +66,7 @@ impl Account {
         number
     }
 
-    // Notes that a call on the link gave no answer.
+    // Notes why a call on the link returned no value.
     pub(crate) fn stop(&mut self, stop: Stop)
         ensures { self.new ≡ stopped stop self.old }
     {

@@ -68,7 +68,8 @@ impl<'a, R: Wait, G: Gate> Door<'a, R, G> {
         unreachable!()
     }
 
-    // Takes what comes next, and answers it: whether more may come.
+    // Takes what comes next: hears a text, and at an Idle sends what there is for the session. Returns whether something
+    // came: `false` where the link has ended, had a fault or was refused memory.
     fn turn<K: Link>(&self, link: &mut K, conversation: &mut Conversation) -> bool
         requires open { IsOpen conversation.old.account }
         requires own { room_of conversation.old.pass ≡ id_of self.now.room.now }
@@ -98,7 +99,8 @@ impl<'a, R: Wait, G: Gate> Door<'a, R, G> {
         }
     }
 
-    // Takes a text that came, and answers the message that it completes, if it does.
+    // Takes a text that came. Where the text completes a message, the room is given that, and what the session is given goes
+    // out. Where the text is refused, the link is closed.
     fn hear<K: Link>(&self, link: &mut K, conversation: &mut Conversation, bytes: &[u8])
         requires open { IsOpen conversation.old.account }
         requires own { room_of conversation.old.pass ≡ id_of self.now.room.now }

@@ -1,4 +1,4 @@
--- What serving answers.
+-- What serving returns.
 use Rattle.std.specs.Prelude.{◌≡◌, ◌≢◌, ◌⊎◌, ◌<◌, ◌++◌, ℕ, List, [], Bool, true, false, Option}
 use Rattle.std.specs.List.{list_any}
 use Rattle.room_link.specs.Exchange.{Exchange}

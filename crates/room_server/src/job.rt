@@ -29,10 +29,10 @@ pub struct Served {
     pub closed: Vec<Closed>,
 }
 
-/// Makes so many rooms of version 3, 1 to 16, lets each worker serve its links there until it has none left or fails,
-/// closes the rooms, and writes a line for each worker and for each room, in order, each by writes of its own. The rooms' whole
-/// history is kept until then. It waits for links, and for the turns of the rooms. It costs what the links cost, and at
-/// the end a copy of the rooms' records.
+/// Makes so many rooms of version 3, 1 to 16, lets each worker serve its links there until it has none left or fails, closes
+/// the rooms, and writes a line for each worker and for each room, in order, each by writes of its own. The rooms' whole
+/// history is kept until then. It waits for links, and for the turns of the rooms. It costs what the links cost, and at the
+/// end a copy of the rooms' records.
 pub fn serve_job<R: Threads + Wait + Sync, K: Sink, A: Accept + Send, G: Gate + Sync>(
     rt: &R,
     alloc: Global,
@@ -99,7 +99,7 @@ where
     })
 }
 
-// Writes the lines, and answers how it ended.
+// Writes the lines, and returns what came of the rooms, with the status.
 fn finish<K: Sink>(sink: &mut K, hosted: Hosted) -> Served
     requires lines { flat_map (λ line. line.items) hosted.lines.items
         ≡ outcome_text hosted.tallies.items hosted.closed.items }

@@ -13,7 +13,7 @@ use Rattle.room_snapshot.specs.declared.snapshot.Snapshot.{Snapshot}
 abbrev pub OneRoomEach : Type 0
 OneRoomEach = (s t : SavedTree) (a b : Versions) → AreRising s.tombstones → AreRising t.tombstones → line_val s a ≡ line_val t b → (s ≡ t) × (a ≡ b)
 
--- an answer that keeps the contract of `read` is, for the line of a saved room, this room with its schema's versions, or
+-- a result that keeps the contract of `read` is, for the line of a saved room, this room with its schema's versions, or
 -- out of memory
 abbrev pub ReadsTheLine : Type 0
 ReadsTheLine = (bytes : List ℕ) (r : Result Snapshot SnapFault) → IfOk r (λ x. IsLine bytes (saved_tree x.saved) x.held) → IfErr r (RefusesLine bytes)

@@ -24,7 +24,7 @@ IsStatusOf (Some (Make seed size print)) status = IsMakeStatus status
 IsStatusOf (Some (Serve port workers rooms links)) status = IsServeStatus status
 IsStatusOf (Some (Join port room)) status = IsJoinStatus status
 
--- a server answers so: there is an answer with this status that tells what was served, written and closed
+-- a server ends so: there is a result of `room_server` with this status that tells what was served, written and closed
 module _ {K A : Type 0} (link_faults : K → ℕ) (link_told : K → Option Exchange)
     (worker_faults : A → ℕ) (worker_told : A → Option (Worker K)) where
   pub record Serves (rooms : ℕ) (before after : List A) (old new : Option (List ℕ)) (faults_old faults_new : ℕ) (status : ℕ) : Type 0 where

@@ -51,7 +51,7 @@ fn unread(error: io::Error) -> io::Result<u8>
     }
 }
 
-/// Does what the words ask for, and answers the status. The help and the version go to `output`.
+/// Does what the words ask for, and returns the status. The help and the version go to `output`.
 fn answered<R: Threads + Wait + Sync, W: Write>(
     host: &HostRuntime,
     rt: &R,

@@ -31,13 +31,13 @@ pub const USAGE: u8 = 2;
 /// The status of who was refused memory.
 pub const OUT_OF_MEMORY: u8 = 6;
 
-/// Does what the words ask for, without the program's name, and returns the status with which the
-/// program ends: 0 where the job is done, 2 where the words ask for none, 3 where the recording or the
-/// script is refused, 4 where the source failed, 5 where the sink failed, 6 where memory was refused, 7
-/// where a worker failed, 8 where the link failed, 9 where a text of the room is refused. It costs what the job does. What a recording writes has a line for each view that a
-/// client watches, whenever the view changes. A server serves the links of the workers, which wait at
-/// the gate; how many links a worker has is not read from the words here. A client joins over the next
-/// link of the first worker, and plays its script there; without one it plays over a link that has ended.
+/// Does what the words ask for, without the program's name, and returns the status with which the program ends: 0 where the
+/// job is done, 2 where the words ask for none, 3 where the recording or the script is refused, 4 where the source failed, 5
+/// where the sink failed, 6 where memory was refused, 7 where a worker failed, 8 where the link failed, 9 where a text of
+/// the room is refused. It costs what the job does. What a recording writes has a line for each view that a client watches,
+/// whenever the view changes. A server serves the links of the workers, which wait at the gate; how many links a worker has
+/// is not read from the words here. A client joins over the next link of the first worker, and plays its script there;
+/// without one it plays over a link that has ended.
 pub fn run<
     R: Threads + Wait + Sync,
     S: Source,
@@ -115,15 +115,15 @@ where
         → source.new ≡ source.old }
 
     // A server: the rooms are served by the workers and closed, and on 0 and 7 the lines that say so are written; on 7 a
-    // worker failed. Nothing is read.
+    // worker failed.
     ensures served { (port count rooms links : ℕ)
         → job_named (map string_bytes words.now) ≡ Some (Job.Serve port count rooms links)
         → Serves A.Link.faults A.Link.told A.faults A.told rooms workers.old.items workers.new.items
         (K.held sink.old) (K.held sink.new) (K.faults sink.old) (K.faults sink.new) result }
 
-    // A client: the script was played over the next link of the first worker, which got it back, where that tells its links; where
-    // no worker is, or no link was left, over a link that has ended. The status is how it ended. On 7 the worker failed: no link was
-    // handed out, and nothing was read or written.
+    // A client: the script was played over the next link of the first worker, which got it back, where that tells its links;
+    // where no worker is, or no link was left, over a link that has ended. The status is how it ended. On 7 the worker
+    // failed: no link was handed out, and nothing was read or written.
     ensures joined { (port room : ℕ)
         → job_named (map string_bytes words.now) ≡ Some (Job.Join port room)
         → result ≢ 7 → PlaysOverWorkers A.Link.faults A.Link.told A.told room (S.left source.old)

@@ -105,7 +105,8 @@ const SERVED: &str =
 const BASE: &str =
     r#"H; C; C; OPEN; OPEN1; {"client":0,"diff":{"page:p":["put",PAGE],"shape:a":["put",GEO100,SIDE0,"y":0}]},"do":"edit"}; HANDLE; SEND; DELIVER; SEND1; DELIVER1"#;
 
-// The texts of names that stand in lines: a document and its page, a shape up to its opacity and from there up to its x, and a schema.
+// The texts of names that stand in lines: a document and its page, a shape up to its opacity and from there up to its x, and
+// a schema.
 const PARTS: [(&str, &str); 5] = [
     ("DOC", r#"{"page:p":PAGE}"#),
     (
@@ -549,8 +550,8 @@ fn moved(alloc: Global, moves: u32) -> Result<String, Fail> {
     Ok(text)
 }
 
-// What many pending moves write: the counts, the client with all of them pending and with none, and the room at the end, whose
-// clock is raised by the other client too. That moves the first shape last.
+// What many pending moves write: the counts, the client with all of them pending and with none, and the room at the end,
+// whose clock is raised by the other client too. That moves the first shape last.
 fn answered(alloc: Global, rounds: u32) -> Result<String, Fail> {
     let mut text = lines(alloc, COUNTS)?;
     let before = hundred(alloc, rounds, rounds)?;
@@ -651,7 +652,8 @@ fn ends_where_a_worker_fails(rt: HostRuntime) -> Result<(), Fail> {
     Ok(())
 }
 
-// A client whose worker fails reads and writes nothing; where it has no link left, the script is played over one that has ended.
+// A client whose worker fails reads and writes nothing; where it has no link left, the script is played over one that has
+// ended.
 #[test]
 fn joins_by_a_worker_that_fails(rt: HostRuntime) -> Result<(), Fail> {
     let alloc = rt.alloc();

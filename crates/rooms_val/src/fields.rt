@@ -151,7 +151,8 @@ impl Fields {
     }
 
     /// Sets the value under a key, and returns the one before. Where memory is refused the map is as before. A key
-    /// beyond all others is added at the cost of one comparison. If copies share the map, it costs a copy of each value.
+    /// beyond all others is added at the cost of one comparison. Any other key costs a logarithm, and a move of the keys
+    /// after it where it is added. If copies share the map, it costs a copy of each value.
     pub fn put(&mut self, key: Text, val: Val) -> Mem<Option<Val>>
         ensures old { IfOk result (λ v. option_map data_of v ≡ value_at self.old key) }
         ensures ok { OnOk result (self.new ≡ with_key self.old key (data_of val)) }
@@ -174,7 +175,11 @@ impl Fields {
         }
     }
 
-    /// The map with a further field, in place of the one under the key. It costs what `put` does.
+    /// The map with a value under a key, in place of the one that stood there. It costs a copy of the key, and what `put`
+    /// costs: what comes after a key that is added moves, and if copies share the map, each value is copied.
+    ///
+    /// # Errors
+    /// Out of memory alone. Then this map is lost, and its copies are as they were.
     pub fn with(mut self, alloc: Global, key: &str, val: Val) -> Mem<Fields>
         ensures { IfOk result (λ made. made ≡ with_key self key.now (data_of val)) }
     {
@@ -268,7 +273,8 @@ impl Fields {
     /// Writes the JSON of the pairs and the bracket that closes the map.
     #[cycle(write)]
     pub(crate) fn write_to(&self, out: &mut Writer) -> Mem<()>
-        ensures ok { OnOk result (out.new.tokens ≡ out.old.tokens ++ members_tokens (members_of self.now)) }
+        ensures ok { OnOk result
+            (out.new.tokens ≡ out.old.tokens ++ members_tokens (members_of self.now)) }
         ensures before { out.new.before ≡ out.old.before }
     {
         let Some(entries) = &self.entries else {
@@ -308,8 +314,10 @@ fn copied(alloc: Global, entries: &[(Text, Val)], more: usize) -> Mem<Vec<(Text,
 fn put_in(entries: &mut Vec<(Text, Val)>, key: Text, val: Val) -> Mem<Option<Val>>
     requires map { IsSound (map (members_of (pairs_view entries.old.items))) }
     requires val { IsSound (data_of val) }
-    ensures old { IfOk result (λ v. option_map data_of v ≡ value_at (pairs_view entries.old.items) key) }
-    ensures ok { OnOk result (pairs_view entries.new.items ≡ with_key (pairs_view entries.old.items) key (data_of val)) }
+    ensures old { IfOk result
+        (λ v. option_map data_of v ≡ value_at (pairs_view entries.old.items) key) }
+    ensures ok { OnOk result
+        (pairs_view entries.new.items ≡ with_key (pairs_view entries.old.items) key (data_of val)) }
     ensures sound { IsSound (map (members_of (pairs_view entries.new.items))) }
     ensures err { OnErr result (entries.new.items ≡ entries.old.items) }
 {
@@ -321,7 +329,8 @@ fn put_in(entries: &mut Vec<(Text, Val)>, key: Text, val: Val) -> Mem<Option<Val
 fn take_from(entries: &mut Vec<(Text, Val)>, key: &str) -> Option<Val>
     requires { IsSound (map (members_of (pairs_view entries.old.items))) }
     ensures old { option_map data_of result ≡ value_at (pairs_view entries.old.items) key.now }
-    ensures rest { pairs_view entries.new.items ≡ without_key (pairs_view entries.old.items) key.now }
+    ensures rest { pairs_view entries.new.items
+        ≡ without_key (pairs_view entries.old.items) key.now }
     ensures sound { IsSound (map (members_of (pairs_view entries.new.items))) }
 {
     entries::take(entries, key)

@@ -51,7 +51,8 @@ fn vals_of(alloc: Global, items: Vec<Value>) -> Mem<Vals>
 
 #[cycle(from_json)]
 fn fields_of(alloc: Global, members: Map<String, Value>) -> Mem<Fields>
-    ensures { IfOk result (λ fields. members_of fields ≡ members_in (members_view members.entries)) }
+    ensures { IfOk result
+        (λ fields. members_of fields ≡ members_in (members_view members.entries)) }
 {
     let mut entries = Vec::with_capacity(alloc, members.len())?;
     for (key, member) in members {

@@ -7,7 +7,7 @@ use thiserror::Error;
 #[error("out of memory")]
 pub struct OutOfMemory;
 
-/// The result of a call that fails out of memory alone.
+/// The result of a call that fails only where memory runs out.
 pub type Mem<T> = Result<T, OutOfMemory>;
 
 impl From<AllocError> for OutOfMemory {

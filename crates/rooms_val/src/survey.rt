@@ -61,7 +61,8 @@ impl Survey {
     fn of_items(items: &Vec<Value>, levels: usize) -> Survey
         ensures whole { result.is_whole ≡ not (items_have_float (items_view items.now.items)) }
         ensures within { result.is_within ≡ items_are_within (items_view items.now.items) }
-        ensures shallow { result.is_shallow ≡ nat_le (items_depth (items_view items.now.items)) levels }
+        ensures shallow { result.is_shallow
+            ≡ nat_le (items_depth (items_view items.now.items)) levels }
     {
         let mut all = Survey::CLEAR;
         for item in items {
@@ -72,9 +73,11 @@ impl Survey {
 
     #[cycle(survey)]
     fn of_members(members: &Map<String, Value>, levels: usize) -> Survey
-        ensures whole { result.is_whole ≡ not (members_have_float (members_view members.now.entries)) }
+        ensures whole { result.is_whole
+            ≡ not (members_have_float (members_view members.now.entries)) }
         ensures within { result.is_within ≡ members_are_within (members_view members.now.entries) }
-        ensures shallow { result.is_shallow ≡ nat_le (members_depth (members_view members.now.entries)) levels }
+        ensures shallow { result.is_shallow
+            ≡ nat_le (members_depth (members_view members.now.entries)) levels }
     {
         let mut all = Survey::CLEAR;
         for (_, member) in members.iter() {

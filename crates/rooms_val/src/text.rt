@@ -26,7 +26,8 @@ impl Model for Short {
 
     ghost view = { λ s. take s.len s.bytes };
 
-    ghost invariant = { λ s. (s.len ≤ 22) × (length s.bytes ≡ 22) × ∥ IsUtf8 (take s.len s.bytes) ∥₁ };
+    ghost invariant = { λ s. (s.len ≤ 22) × (length s.bytes ≡ 22)
+        × ∥ IsUtf8 (take s.len s.bytes) ∥₁ };
 }
 
 impl Short {

@@ -196,7 +196,8 @@ impl Vals {
     /// Writes the JSON of the values and the bracket that closes the list.
     #[cycle(write)]
     pub(crate) fn write_to(&self, out: &mut Writer) -> Mem<()>
-        ensures ok { OnOk result (out.new.tokens ≡ out.old.tokens ++ items_tokens (items_of self.now)) }
+        ensures ok { OnOk result
+            (out.new.tokens ≡ out.old.tokens ++ items_tokens (items_of self.now)) }
         ensures before { out.new.before ≡ out.old.before }
     {
         let Some(items) = &self.items else {

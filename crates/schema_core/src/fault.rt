@@ -11,7 +11,7 @@ use thiserror::Error;
 /// Why types make no schema.
 #[derive(Drop, Error)]
 pub enum SchemaFault {
-    /// A type has the name of one before it. Of several the first in the order of the list is answered.
+    /// A type has the name of one before it. Of several the first in the order of the list is returned.
     #[error("two types have one name")]
     DoubledType(Text),
     /// Memory was refused.
@@ -41,7 +41,7 @@ impl fmt::Debug for SchemaFault {
     }
 }
 
-/// Why a record isn't admitted under an id. Of several causes the first in this order is answered.
+/// Why a record isn't admitted under an id. Of several causes the first in this order is returned.
 #[derive(Clone, Copy, Debug, PartialEq, Eq, Error)]
 pub enum RecordFault {
     /// The record's `id` isn't the id, the id isn't of its form, or its type isn't the record's `typeName`.

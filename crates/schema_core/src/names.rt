@@ -17,7 +17,8 @@ pub(crate) fn by_name(
     alloc: Global,
     rows: Vec<TypeRow>,
 ) -> Result<Vec<(Text, RecordType)>, SchemaFault>
-    ensures answer { Gives schema_fault.OutOfMemory (λ types. types_view types.items) result (types_by_name (rows_view rows.items)) }
+    ensures answer { Gives schema_fault.OutOfMemory (λ types. types_view types.items) result
+        (types_by_name (rows_view rows.items)) }
     ensures rising { IfOk result (λ types. AreRising types.items) }
 {
     let mut types = Vec::new(alloc);

@@ -47,7 +47,8 @@ impl Schema {
         types: Vec<TypeRow>,
         sequences: Sequences,
     ) -> Result<Schema, SchemaFault>
-        ensures { Gives schema_fault.OutOfMemory schema_tree result (built (rows_view types.items) (sequences_of sequences)) }
+        ensures { Gives schema_fault.OutOfMemory schema_tree result
+            (built (rows_view types.items) (sequences_of sequences)) }
     {
         let types = by_name(alloc, types)?;
         Ok(Schema { types, sequences })
@@ -57,7 +58,8 @@ impl Schema {
     /// call takes no memory, and costs a fixed number of passes over the record.
     pub fn admits(&self, id: &str, record_: &Val) -> Result<Scope, RecordFault>
         ensures answer { result ≡ admission (schema_tree self.now) id.now (data_of record_.now) }
-        ensures admitted { IsOk result ↔ IsAdmitted (schema_tree self.now) id.now (data_of record_.now) }
+        ensures admitted { IsOk result
+            ↔ IsAdmitted (schema_tree self.now) id.now (data_of record_.now) }
     {
         let Some(name) = own_type(id, record_) else {
             return Err(RecordFault::BadId);
@@ -74,7 +76,7 @@ impl Schema {
         Ok(found.scope)
     }
 
-    /// What [`Schema::admits`] answers of what a patch left of a record that was admitted under the id. The keys that the
+    /// What [`Schema::admits`] returns for what a patch left of a record that was admitted under the id. The keys that the
     /// patch names decide. Where those don't fit, or `id`, `typeName` or `type` is among them, the whole record is looked
     /// at, and its weight is counted in any case, by one pass without a look-up.
     pub fn admits_patched(
@@ -97,7 +99,8 @@ impl Schema {
     fn still_admits(&self, id: &str, left: &Val, patch: &ObjectDiff) -> Option<Scope>
         ensures { (before : Data) → IsSound before → IsAdmitted (schema_tree self.now) id.now before
             → data_of left.now ≡ on_map (λ f. patched (edits_of patch.now) f) before
-            → IfSome result (λ scope. admission (schema_tree self.now) id.now (data_of left.now) ≡ Ok scope) }
+            → IfSome result
+            (λ scope. admission (schema_tree self.now) id.now (data_of left.now) ≡ Ok scope) }
     {
         if patch.get("id").is_some() || patch.get("typeName").is_some() {
             return None;
@@ -141,7 +144,8 @@ impl Schema {
 
     // The type that has the name.
     fn type_named(&self, name: &str) -> Option<&RecordType>
-        ensures { option_map (λ t. type_tree t.now) result ≡ value_at (schema_tree self.now).types name.now }
+        ensures { option_map (λ t. type_tree t.now) result
+            ≡ value_at (schema_tree self.now).types name.now }
     {
         entries::get(&self.types, name)
     }

@@ -12,7 +12,8 @@ use std::alloc::Global;
 
 // The places of the shapes among the records, sorted. It costs what sorting them costs.
 pub(crate) fn index_of<'a>(alloc: Global, vals: &'a [Val]) -> Mem<Vec<Place<'a>>>
-    ensures { IfOk result (λ index. IsIndex (by_id (items_view vals.now)) (places_view index.items)) }
+    ensures { IfOk result
+        (λ index. IsIndex (by_id (items_view vals.now)) (places_view index.items)) }
 {
     let records = by_id(alloc, vals)?;
     let mut index = places_of(alloc, &records)?;
@@ -22,7 +23,8 @@ pub(crate) fn index_of<'a>(alloc: Global, vals: &'a [Val]) -> Mem<Vec<Place<'a>>
 
 // The places of the shapes among the records, by their ids.
 fn places_of<'a>(alloc: Global, records: &Records<'a>) -> Mem<Vec<Place<'a>>>
-    ensures { IfOk result (λ found. places_view found.items ≡ places (pairs_view records.now.entries)) }
+    ensures { IfOk result
+        (λ found. places_view found.items ≡ places (pairs_view records.now.entries)) }
 {
     let mut found = Vec::new(alloc);
     'records: for (id, val) in records {

@@ -16,7 +16,8 @@ use std::alloc::Global;
 /// The records are any list: each counts under its `id`, where that is a text, and of two with one id the later one.
 /// It costs the sorting of the records.
 pub fn children(alloc: Global, records: &[Val], parent: &str) -> Mem<Vec<Text>>
-    ensures { IfOk result (λ ids. ids.items ≡ children (by_id (items_view records.now)) parent.now) }
+    ensures { IfOk result
+        (λ ids. ids.items ≡ children (by_id (items_view records.now)) parent.now) }
 {
     let index = index_of(alloc, records)?;
     ids_of(alloc, siblings(&index, parent))
@@ -58,7 +59,8 @@ fn list_below(
     requires rising { Rises place_order (places_view index.now) }
     requires room { vec_len ids.old ≤ most_shapes }
     ensures room { OnOk result (vec_len ids.new ≤ most_shapes) }
-    ensures listed { OnOk result (AreListed levels (places_view index.now) parent.now ids.old.items ids.new.items) }
+    ensures listed { OnOk result
+        (AreListed levels (places_view index.now) parent.now ids.old.items ids.new.items) }
 {
     if levels == 0 {
         return Ok(());

@@ -46,7 +46,8 @@ pub(crate) fn by_id<'a>(alloc: Global, vals: &'a [Val]) -> Mem<Records<'a>>
 
 // Sets the record under its `id`, where that is a text.
 fn add<'a>(records: &mut Records<'a>, val: &'a Val) -> Mem<()>
-    ensures { OnOk result (pairs_view records.new.entries ≡ with_record (pairs_view records.old.entries) (data_of val.now)) }
+    ensures { OnOk result (pairs_view records.new.entries
+        ≡ with_record (pairs_view records.old.entries) (data_of val.now)) }
 {
     if let Some(id) = id_of(val) {
         let _ = records.insert(id, val)?;
@@ -56,7 +57,8 @@ fn add<'a>(records: &mut Records<'a>, val: &'a Val) -> Mem<()>
 
 // The text under `id`, if there is one.
 fn id_of(val: &Val) -> Option<&str>
-    ensures { option_map (λ t. t.now) result ≡ option_and_then as_text (field (data_of val.now) (codes "id")) }
+    ensures { option_map (λ t. t.now) result
+        ≡ option_and_then as_text (field (data_of val.now) (codes "id")) }
 {
     val.get("id")?.as_text()
 }

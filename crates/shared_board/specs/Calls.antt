@@ -25,12 +25,12 @@ abbrev pub IsRefusal : BoardFault → Outcome EditFault → Type 0
 IsRefusal fault outcome = (why : StepFault EditFault) × (outcome ≡ Err why) × (fault ≡ fault_of why)
 
 -- an event happens: the board stands for the world that the event makes, and the answer is one to what the event prints. Or the event is
--- refused for its fault, and the board stands for the world as it was. After want of memory nothing is said
+-- refused for its fault, and the board stands for the world as it was. Where memory ran out nothing is said
 abbrev pub Answers : {T : Type 0} → (T → List OutLine → Type 0) → WorldSchemas EditFault → model.World → Event → Result T BoardFault → Board → Type 0
 Answers Is schemas state e (Ok answer) board = (made : Stepped) × (after_event schemas false state e ≡ Ok made) × Is answer made.lines × Stands schemas made.world board
 Answers Is schemas state e (Err fault) board = fault ≢ OutOfMemory → IsRefusal fault (after_event schemas false state e) × Stands schemas state board
 
--- the same where there is nothing to answer
+-- the same where the call returns nothing else
 abbrev pub Happens : WorldSchemas EditFault → model.World → Event → Result (Unit {0}) BoardFault → Board → Type 0
 Happens schemas state e answer board = Answers {T = Unit {0}} (λ done lines. Unit {0}) schemas state e answer board
 

@@ -68,7 +68,7 @@ impl Board {
         }
     }
 
-    /// A client takes its own edits back to its last mark, or all where it has none; what others did since stays. Answers
+    /// A client takes its own edits back to its last mark, or all where it has none; what others did since stays. Returns
     /// whether there was an edit to take back. It costs what these edits name.
     ///
     /// # Errors
@@ -83,7 +83,7 @@ impl Board {
         })
     }
 
-    /// A client does again what its last undo took back. Answers whether there was something to do again.
+    /// A client does again what its last undo took back. Returns whether there was something to do again.
     ///
     /// # Errors
     /// `NoSuchClient` or `OutOfMemory`.
@@ -174,7 +174,7 @@ impl Board {
         }
     }
 
-    // The same, with the answer whether something was done.
+    // The same. Returns whether something was done.
     fn act_if(&mut self, event: Event) -> Result<bool, BoardFault>
         requires played { IsPlayed event }
         requires apart { IsApart event }

@@ -35,8 +35,8 @@ pub struct ClientId {
     pub(crate) number: u64,
 }
 
-/// A room with its clients, and what is on the way between them. A client that isn't connected draws by itself; its edits are
-/// pending, and go to the room once it is connected.
+/// A room with its clients, and what is on the way between them. A client that isn't connected draws by itself; its edits
+/// are pending, and go to the room once it is connected.
 #[derive(Drop)]
 pub struct Board {
     // What memory is taken from.
@@ -70,7 +70,8 @@ impl Board {
         }
     }
 
-    /// A client of a version joins, 1 to `NEWEST_VERSION`. It isn't connected, and its document is empty. It costs the schema.
+    /// A client of a version joins, 1 to `NEWEST_VERSION`. It isn't connected, and its document is empty. It costs the
+    /// schema.
     ///
     /// # Errors
     /// `NoSuchVersion` exactly for a version that the tables don't have; `Limit` exactly where 64 clients have joined; or
@@ -97,8 +98,9 @@ impl Board {
     /// A client asks to be connected, so that its edits go to the room. It costs a pass over the connections.
     ///
     /// # Errors
-    /// `NoSuchClient`; `Connect` where the client has a connection, or the room ended one of it for another cause than that it
-    /// lay too far behind; `Limit` where 64 clients are connected or 4,096 connections were made; or `OutOfMemory`.
+    /// `NoSuchClient`; `Connect` where the client has a connection, or the room ended one of it for another cause than that
+    /// it lay too far behind; `Limit` where 64 connections are in the room or 4,096 were made; or `OutOfMemory`. A
+    /// connection that was cut, or that the room ended, is still in the room.
     pub fn connect(&mut self, client: ClientId) -> Result<(), BoardFault>
         ensures { (schemas : WorldSchemas EditFault) (state : model.World)
             → Stands schemas state self.old
@@ -138,7 +140,7 @@ impl Board {
         }
     }
 
-    // Lets an event happen by which nobody connects, and answers the lines that it prints.
+    // Lets an event happen by which nobody connects, and returns the lines that it prints.
     pub(crate) fn happen(&mut self, event: Event) -> Result<Vec<OutLine>, BoardFault>
         requires played { IsPlayed event }
         requires apart { IsApart event }

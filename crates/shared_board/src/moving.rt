@@ -29,9 +29,10 @@ pub(crate) enum Leg {
 }
 
 impl Board {
-    /// Lets everything that is on the way arrive, until nothing is: the room hears all that its clients said, and each client
-    /// all that the room has for it. Then each client that is connected owes no edit, and shows the room's document, seen at
-    /// its version. It costs what is on the way, and two or three passes over the connections that were made.
+    /// Lets everything that is on the way arrive, until nothing is: the room hears all that its clients said, and each
+    /// client all that the room has for it. Then each client that is connected owes no edit, and shows the room's document,
+    /// seen at its version. It costs what is on the way, and passes over the connections that were made: one each time that
+    /// something moved, and one more.
     ///
     /// # Errors
     /// `OutOfMemory`. `Restless` where after 2^64 - 1 passes something was still on the way.
@@ -54,8 +55,8 @@ impl Board {
         Err(BoardFault::Restless)
     }
 
-    // The next message of each session is given to the room, then each is given what is next for it, and then each client is.
-    // Answers whether anything moved.
+    // The next message of each session is given to the room, then each is given what is next for it, and then each client
+    // is. Returns whether anything moved.
     fn pass(&mut self) -> Mem<bool>
         ensures { IfOk result (λ moved. (schemas : WorldSchemas EditFault) (state : model.World)
             → Stands schemas state self.old → Passes schemas state moved self.new) }
@@ -68,7 +69,7 @@ impl Board {
         Ok(either(either(heard, told), given))
     }
 
-    // Lets a move of each number below a count happen that can. Answers whether one happened.
+    // Lets a move of each number below a count happen that can. Returns whether one happened.
     fn try_each(&mut self, leg: Leg, count: u64) -> Mem<bool>
         ensures { IfOk result (λ moved. (schemas : WorldSchemas EditFault) (state : model.World)
             → Stands schemas state self.old → Tries schemas state leg count moved self.new) }
@@ -83,7 +84,7 @@ impl Board {
         Ok(moved)
     }
 
-    // Lets an event that moves something happen, if it can. Answers whether it did.
+    // Lets an event that moves something happen, if it can. Returns whether it did.
     fn attempt(&mut self, event: Event) -> Mem<bool>
         requires { IsMoving event }
         ensures { IfOk result (λ happened. (schemas : WorldSchemas EditFault) (state : model.World)

@@ -49,7 +49,8 @@ impl Board {
         }
     }
 
-    /// The room's clock: how many entries it accepted.
+    /// The room's clock: how many entries its history has. Each push that the room takes is an entry, also one of a client
+    /// that only reads, and so is each removal of a presence.
     pub fn clock(&self) -> i64
         ensures { (schemas : WorldSchemas EditFault) (state : model.World)
             → Stands schemas state self.now → result ≡ pos (length state.room.history) }

@@ -48,7 +48,7 @@ with_index d key = on_map (λ ps. with_key ps (codes "index") (text key)) d
 abbrev pub put_if_admitted : SchemaTree → List ℕ → Data → Result RecordOpTree EditFault
 put_if_admitted s id d = option_map_or (λ fault. Err (Invalid id fault)) (first_fault s id d) (Ok (put d))
 
--- the answer's next, unless the answer is a refusal
+-- what comes next of a result, unless the result is a refusal
 abbrev pub and_then : {A B : Type 0} → Result A EditFault → (A → Result B EditFault) → Result B EditFault
 and_then (Ok x) next = next x
 and_then (Err fault) next = Err fault

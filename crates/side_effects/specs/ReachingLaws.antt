@@ -1,4 +1,4 @@
--- The laws of reaching, each the contract of a function of `laws.rt`.
+-- The law of reaching, the contract of `reaching_is_least` of `reaching.rt`.
 use Rattle.std.specs.Prelude.{◌≡◌, List, [], ◌∷◌, Bool, true, ◌⊎◌, length}
 use Rattle.side_effects.specs.Reaching.{reaches}
 

@@ -91,8 +91,8 @@ pub(crate) fn text_after<D: DocStore>(
     }
 }
 
-// The text under a key of the record that an operation leaves under the id, if it leaves one. A record is copied only where the
-// operation patches that key.
+// The text under a key of the record that an operation leaves under the id, if it leaves one. A record is copied only where
+// the operation patches that key.
 fn text_left<D: DocStore>(
     alloc: Global,
     store: &D,

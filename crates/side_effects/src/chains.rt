@@ -17,8 +17,8 @@ use std::alloc::Global;
 // How far up a chain is followed before the records are counted.
 const FEW_STEPS: usize = 64;
 
-/// Refuses a shape that stands on its own chain of parents. It costs the chain; the store's ids are counted only where the chain
-/// has more than 64 parents.
+/// Refuses a shape that stands on its own chain of parents. It costs the chain; the store's ids are counted only where the
+/// chain has more than 64 parents.
 pub(crate) fn check_chain<D: DocStore>(
     alloc: Global,
     store: &D,

@@ -20,9 +20,9 @@ const MOST_OPERATIONS: usize = 8_192;
 /// The diff that an edit makes of a store's records: the wanted one, with an index for each new shape that has none, and a
 /// remove for each record that hangs on a removed one.
 ///
-/// A new shape without index gets the key behind the greatest index among the children that its parent has so far. A shape hangs
-/// on its parent and a binding on its two ends, as they are after the edit; what goes is the least set with the removed records
-/// and whatever hangs on one of the set.
+/// A new shape without index gets the key behind the greatest index among the children that its parent has so far. A shape
+/// hangs on its parent and a binding on its two ends, as they are after the edit; what goes is the least set with the
+/// removed records and whatever hangs on one of the set.
 ///
 /// It costs what the diff names, with a look-up in the store for each id. Only where a shape gets an index, or a record is
 /// removed, or a chain has more than 64 parents, each record of the store is looked at.

@@ -8,7 +8,7 @@ use schema_core::RecordFault;
 use std::fmt;
 use thiserror::Error;
 
-/// Why an edit is refused. The rules of `complete` say which of several causes is answered, and which of several ids.
+/// Why an edit is refused. The rules of `complete` say which of several causes is returned, and with which of several ids.
 #[derive(Drop, Error)]
 pub enum EditFault {
     /// It has more than 8,192 operations.

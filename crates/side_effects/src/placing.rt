@@ -66,8 +66,8 @@ fn keep_placed<D: DocStore>(
     Ok(())
 }
 
-/// The diff with the puts of such shapes of the wanted diff, each with an index. If there are any, it looks at each record of
-/// the store once.
+/// The diff with the puts of such shapes of the wanted diff, each with an index. If there are any, it looks at each record
+/// of the store once.
 pub(crate) fn with_placed<D: DocStore>(
     alloc: Global,
     schema: &Schema,
@@ -92,8 +92,8 @@ pub(crate) fn with_placed<D: DocStore>(
     Ok(diff)
 }
 
-// Adds the put of a shape without index, with an index behind its parent's children, and makes that the greatest one. Another
-// operation adds nothing.
+// Adds the put of a shape without index, with an index behind its parent's children, and makes that the greatest one.
+// Another operation adds nothing.
 fn place<D: DocStore>(
     alloc: Global,
     schema: &Schema,

@@ -17,8 +17,8 @@ use std::alloc::Global;
 // Ids with an id on which the record under each hangs.
 type Links = Vec<(Text, Text)>;
 
-/// The diff with a remove for each record that goes with those that it removes. If it removes any, it looks at each record of
-/// the store once, and at the links that are left once for each level that they lead down.
+/// The diff with a remove for each record that goes with those that it removes. If it removes any, it looks at each record
+/// of the store once, and at the links that are left once for each level that they lead down.
 pub(crate) fn with_removes<D: DocStore>(alloc: Global, store: &D, diff: Diff) -> Mem<Diff>
     ensures { IfOk result (λ all. all ≡ with_removes (D.records store.now) diff) }
 {

@@ -36,8 +36,8 @@ pub(crate) enum Rule {
     Ends,
 }
 
-/// Refuses the first operation that a rule refuses: the one of the least id. Rules of what is left ask what the diff makes of
-/// the store's records.
+/// Refuses the first operation that a rule refuses: the one of the least id. Rules of what is left ask what the diff makes
+/// of the store's records.
 pub(crate) fn check_each<D: DocStore>(
     alloc: Global,
     rule: Rule,

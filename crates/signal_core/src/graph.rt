@@ -240,7 +240,7 @@ impl<R: Rules + Drop> Graph<R> {
     /// The watches whose value differs from what was last told, a new watch always, each with its
     /// value, by rising number. From then on these values count as told.
     ///
-    /// It costs a `get` of each key that is watched.
+    /// It costs a `get` of each key that is watched, and two copies of each value that is due.
     ///
     /// # Errors
     ///

@@ -6,7 +6,8 @@ use rooms_val::{Mem, Steps};
 use std::alloc::Global;
 use std::sync::ledger::Ledger;
 
-/// What a rule answers: it needs the value of another key first, or it has its own.
+/// What [`Rules::ask`] returns: the key whose value the rule needs first, or the value that the rule
+/// comes to.
 #[derive(Drop)]
 pub enum Ask<K, V> {
     Need(K),

@@ -6,7 +6,8 @@ ghost use Rattle.signal_txn.specs.Journal.{Journal};
 ghost use Rattle.signal_txn.specs.LastWrites.{kept, followed};
 ghost use Rattle.signal_txn.specs.Turns.{Rise, AreInTurn};
 
-/// What is kept of some writes, followed by what is kept of later ones, is what is kept of all of them, if their epochs rise.
+/// What is kept of some writes, followed by what is kept of later ones, is what is kept of all of them, if their epochs
+/// rise.
 pub fn the_last_of_both_are_the_last_of_all<K, V>()
     ensures { (writes later : List (Write K V)) (middle high : ℕ) → Rise 0 writes middle
         → Rise middle later high → followed (kept writes) (kept later) ≡ kept (writes ++ later) }

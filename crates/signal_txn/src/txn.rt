@@ -26,7 +26,8 @@ use std::alloc::Global;
 use std::marker::Model;
 use std::sync::ledger::Ledger;
 
-/// How many transactions may be open: those of a store, and one more within them.
+/// How many transactions of one [`Txn`] may be open, each within the one before. That is one more than
+/// the 16 of a store in `doc_store`: a store over a `Txn` does each write in a transaction of its own.
 pub const MOST_OPEN: usize = 17;
 
 /// A graph whose atoms are set in transactions, which nest.
@@ -205,7 +206,7 @@ impl<R: Rules + Drop> Txn<R> {
     /// The watches whose value differs from what was last told, a new watch always, each with its
     /// value, by rising number. From then on these values count as told. No transaction is open.
     ///
-    /// It costs a `get` of each key that is watched.
+    /// It costs a `get` of each key that is watched, and two copies of each value that is due.
     ///
     /// # Errors
     ///
@@ -237,8 +238,9 @@ impl<R: Rules + Drop> Txn<R> {
     /// Sets an atom: true exactly where the value differs from the old one. Only then the epoch
     /// rises, up to 2^64 - 1, and what hangs on the atom becomes stale.
     ///
-    /// It costs a look-up, what becomes stale, and a look-up and at most one copy for each open
-    /// transaction.
+    /// It costs a look-up, what becomes stale, and a copy of the key and of the value. Each open
+    /// transaction costs a look-up more. One that hadn't written the key costs a copy of the key and of
+    /// the value before, too.
     ///
     /// # Errors
     ///
@@ -286,7 +288,8 @@ impl<R: Rules + Drop> Txn<R> {
             ∷ begun (R.meaning self.old.graph.values.rules) R.Key.cmp self.old) }
         ensures writes { OnOk result (KeepsOn (λ history. [] ∷ history) self.old self.new) }
         ensures graph { self.new.graph ≡ self.old.graph }
-        ensures nested { (result ≡ Err TxnFault.TooNested) ↔ (MOST_OPEN ≤ length self.old.journal.levels) }
+        ensures nested { (result ≡ Err TxnFault.TooNested)
+            ↔ (MOST_OPEN ≤ length self.old.journal.levels) }
         ensures err { OnErr result (self.new ≡ self.old) }
     {
         if self.levels.len() >= MOST_OPEN {

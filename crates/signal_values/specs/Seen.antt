@@ -57,7 +57,7 @@ changed_in cmp values key = option_and_then (λ row. row.changed) (row_of cmp va
 abbrev pub IsListed : {R K V : Type 0} → Seen R K V → K → Type 0
 IsListed {R} {K} {V} values key = (i : ℕ) × (row : Row K V) × (slice_get values.rows i ≡ Some row) × (row.key ≡ key)
 
--- an atom's value differs from the one before, and it changed at this epoch, which is now
+-- the value isn't the one that the atom had before. The given epoch is the epoch afterwards, and the atom's changed epoch
 abbrev pub HasChanged : {R K V : Type 0} → Meaning K V → (K → K → Ordering) → Seen R K V → Seen R K V → K → V → ℕ → Type 0
 HasChanged m cmp old new key v epoch =
     (v ≢ atoms_of m cmp old.rows key) × (new.epoch ≡ epoch) × (changed_in cmp new key ≡ Some epoch)
@@ -66,13 +66,15 @@ HasChanged m cmp old new key v epoch =
 abbrev pub StaysFresh : {R K V : Type 0} → Seen R K V → Seen R K V → Type 0
 StaysFresh {R} {K} {V} old new = (other : K) → IsFreshKey old.rows old.fresh other → IsFreshKey new.rows new.fresh other
 
--- an atom's value is the one before: neither its epoch nor the graph's changed, and each fresh key stays fresh
+-- the value is the one that the atom had before. The epoch is as it was. The atom's changed epoch is as it was, or 0 where
+-- there was none. Each fresh key stays fresh
 abbrev pub HasStayed : {R K V : Type 0} → Meaning K V → (K → K → Ordering) → Seen R K V → Seen R K V → K → V → Type 0
 HasStayed m cmp old new key v =
-    (v ≡ atoms_of m cmp old.rows key) × (new.epoch ≡ old.epoch) × (changed_in cmp new key ≡ or_zero (changed_in cmp old key)) × StaysFresh old new
+    (v ≡ atoms_of m cmp old.rows key) × (new.epoch ≡ old.epoch)
+    × (changed_in cmp new key ≡ or_zero (changed_in cmp old key)) × StaysFresh old new
 
--- an atom was set at an epoch: it has the value, the other atoms, rows and changed epochs are as they were, exactly where the
--- value differs the atom changed at that epoch, and a fresh key whose run doesn't meet the atom stays fresh
+-- an atom was set at an epoch: it has the value, and the other atoms, rows and changed epochs are as they were. Exactly
+-- where the value differs the atom changed at that epoch. A fresh key whose run doesn't meet the atom stays fresh
 pub record IsSetAt {R K V : Type 0} (m : Meaning K V) (cmp : K → K → Ordering) (old new : Seen R K V) (key : K) (v : V) (epoch : ℕ) (changes : Bool) : Type 0 where
   pub rules : new.rules ≡ old.rules
   pub here : atoms_of m cmp new.rows key ≡ v

@@ -31,15 +31,19 @@ impl Model for Edges {
       spare = min (min s.by_parent.spare s.by_child.spare) (vec_capacity s.ends - vec_len s.ends);
     } };
 
-    ghost invariant = { λ s. AreWired s.by_parent.lists s.by_child.lists s.by_parent.count s.by_child.count s.ends.items };
+    ghost invariant = { λ s. AreWired s.by_parent.lists s.by_child.lists s.by_parent.count
+        s.by_child.count s.ends.items };
 }
 
 // Takes all edges into a child out of both their lists.
 fn unlink_all(by_parent: &mut Links, by_child: &mut Links, ends: &[usize], child: usize)
     requires child { child < length by_parent.old.lists }
-    requires wired { AreWired by_parent.old.lists by_child.old.lists by_parent.old.count by_child.old.count ends.now }
-    ensures wired { AreWired by_parent.new.lists by_child.new.lists by_parent.new.count by_child.new.count ends.now }
-    ensures children { children_of ends.now by_parent.new.lists ≡ map (without child) (children_of ends.now by_parent.old.lists) }
+    requires wired { AreWired by_parent.old.lists by_child.old.lists by_parent.old.count
+        by_child.old.count ends.now }
+    ensures wired { AreWired by_parent.new.lists by_child.new.lists by_parent.new.count
+        by_child.new.count ends.now }
+    ensures children { children_of ends.now by_parent.new.lists
+        ≡ map (without child) (children_of ends.now by_parent.old.lists) }
     ensures parent_spare { by_parent.new.spare ≡ by_parent.old.spare }
     ensures child_spare { by_child.new.spare ≡ by_child.old.spare }
 {
@@ -75,14 +79,17 @@ fn take_node(
     ends: &mut Vec<usize>,
     child: usize,
 ) -> usize
-    requires wired { AreWired by_parent.old.lists by_child.old.lists by_parent.old.count by_child.old.count ends.old.items }
+    requires wired { AreWired by_parent.old.lists by_child.old.lists by_parent.old.count
+        by_child.old.count ends.old.items }
     requires parent_spare { 0 < by_parent.old.spare }
     requires child_spare { 0 < by_child.old.spare }
     requires room { vec_len ends.old < vec_capacity ends.old }
-    ensures taken { IsTaken by_parent.old by_child.old by_parent.new by_child.new ends.old.items ends.new.items child result }
+    ensures taken { IsTaken by_parent.old by_child.old by_parent.new by_child.new ends.old.items
+        ends.new.items child result }
     ensures parent_spare { by_parent.old.spare ≤ by_parent.new.spare + 1 }
     ensures child_spare { by_child.old.spare ≤ by_child.new.spare + 1 }
-    ensures room { vec_capacity ends.old - vec_len ends.old ≤ vec_capacity ends.new - vec_len ends.new + 1 }
+    ensures room { vec_capacity ends.old - vec_len ends.old
+        ≤ vec_capacity ends.new - vec_len ends.new + 1 }
 {
     let free = by_child.id(0);
     if let Some(edge) = by_child.first(free) {
@@ -184,7 +191,8 @@ impl Edges {
         requires parent { parent < length self.old.children }
         requires child { child < length self.old.children }
         requires spare { 0 < self.old.spare }
-        ensures children { self.new.children ≡ slice_set self.old.children parent (list_at self.old.children parent ++ child ∷ []) }
+        ensures children { self.new.children
+            ≡ slice_set self.old.children parent (list_at self.old.children parent ++ child ∷ []) }
         ensures spare { self.old.spare ≤ self.new.spare + 1 }
     {
         let count = self.by_child.list_count();

@@ -5,9 +5,9 @@
 //! their rows, which of them are fresh, and their epoch (`specs/Seen.antt`).
 //!
 //! Edges go from a row to each fresh row that read it. The contracts of `Edges` see them as the children of each row, in the
-//! order in which they were linked, and as how many edges need no memory (`specs/Edges.antt`). They stand on `links_core`: an
-//! edge is a node in two lists, that of its parent and that of its child, so that a child leaves all its parents in as many
-//! steps as it has edges.
+//! order in which they were linked, and as how many edges need no memory (`specs/Edges.antt`). They stand on `links_core`:
+//! an edge is a node in two lists, that of its parent and that of its child, so that a child leaves all its parents in as
+//! many steps as it has edges.
 #![tactic(auto)]
 
 mod cells;

@@ -85,7 +85,8 @@ pub(crate) fn fresh_place<K: Ord, V>(cells: &Cells<K, V>, key: &K) -> Option<usi
     requires index { IsIndex K.cmp cells.now.places cells.now.rows.items }
     requires columns { length cells.now.fresh.items ≡ length cells.now.rows.items }
     ensures found { IfSome result (IsFreshAt cells.now key.now) }
-    ensures absent { IfNone result (IsFreshKey cells.now.rows.items cells.now.fresh.items key.now → ⊥) }
+    ensures absent { IfNone result
+        (IsFreshKey cells.now.rows.items cells.now.fresh.items key.now → ⊥) }
 {
     let i = find(cells, key)?;
     if cells.fresh[i] { Some(i) } else { None }

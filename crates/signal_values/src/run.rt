@@ -174,7 +174,8 @@ pub(crate) fn refresh<R: Rules, L: Ledger>(
     requires { IsWhole (R.meaning rules.now) R.Key.cmp cells.old }
     ensures left { IsLeft (R.meaning rules.now) R.Key.cmp epoch cells.old cells.new }
     ensures found { IfOk result (IsFreshAt cells.new key.now) }
-    ensures free { IsFreshKey cells.old.rows.items cells.old.fresh.items key.now → steps.new ≡ steps.old }
+    ensures free { IsFreshKey cells.old.rows.items cells.old.fresh.items key.now
+        → steps.new ≡ steps.old }
 {
     if let Some(i) = fresh_place(cells, key) {
         return Ok(i);

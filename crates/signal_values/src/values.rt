@@ -94,7 +94,8 @@ impl<R: Rules + Drop> Values<R> {
         steps: &mut Steps<L>,
     ) -> Mem<usize>
         ensures got { IsGot (R.meaning self.old.rules) R.Key.cmp self.old self.new }
-        ensures value { IfOk result (IsValueAt (R.meaning self.old.rules) R.Key.cmp self.old self.new key.now) }
+        ensures value { IfOk result
+            (IsValueAt (R.meaning self.old.rules) R.Key.cmp self.old self.new key.now) }
         ensures fresh { IfOk result (λ _. IsFreshKey self.new.rows self.new.fresh key.now) }
         ensures free { IsFreshKey self.old.rows self.old.fresh key.now → steps.new ≡ steps.old }
     {
@@ -113,7 +114,8 @@ impl<R: Rules + Drop> Values<R> {
         steps: &mut Steps<L>,
     ) -> Mem<R::Value>
         ensures got { IsGot (R.meaning self.old.rules) R.Key.cmp self.old self.new }
-        ensures value { IfOk result (λ v. v ≡ value_in (R.meaning self.old.rules) R.Key.cmp self.old key.now) }
+        ensures value { IfOk result
+            (λ v. v ≡ value_in (R.meaning self.old.rules) R.Key.cmp self.old key.now) }
         ensures fresh { OnOk result (IsFreshKey self.new.rows self.new.fresh key.now) }
         ensures free { IsFreshIn self.old key.now → steps.new ≡ steps.old }
     {
@@ -126,7 +128,8 @@ impl<R: Rules + Drop> Values<R> {
         requires { (R.meaning self.now.rules).rank key.now ≡ 0 }
         ensures found { IfSome result
             (λ v. v.now ≡ atoms_of (R.meaning self.now.rules) R.Key.cmp self.now.rows key.now) }
-        ensures absent { IfNone result (atoms_of (R.meaning self.now.rules) R.Key.cmp self.now.rows key.now
+        ensures absent { IfNone result
+            (atoms_of (R.meaning self.now.rules) R.Key.cmp self.now.rows key.now
             ≡ (R.meaning self.now.rules).blank key.now) }
     {
         let i = find(&self.cells, key)?;
@@ -152,7 +155,8 @@ impl<R: Rules + Drop> Values<R> {
     /// Memory was refused, which can't be where the key has a row, and nothing changed.
     pub fn set(&mut self, alloc: Global, key: R::Key, value: R::Value) -> Mem<bool>
         requires { (R.meaning self.old.rules).rank key ≡ 0 }
-        ensures ok { IfOk result (IsSet (R.meaning self.old.rules) R.Key.cmp self.old self.new key value) }
+        ensures ok { IfOk result
+            (IsSet (R.meaning self.old.rules) R.Key.cmp self.old self.new key value) }
         ensures err { OnErr result (self.new ≡ self.old) }
         ensures sure { IsListed self.old key → IsOk result }
     {
@@ -173,8 +177,10 @@ impl<R: Rules + Drop> Values<R> {
         requires rank { (R.meaning self.old.rules).rank key.now ≡ 0 }
         requires listed { IsListed self.old key.now }
         requires epoch { IsNowOrNext self.old.epoch epoch }
-        ensures before { result ≡ atoms_of (R.meaning self.old.rules) R.Key.cmp self.old.rows key.now }
-        ensures set { IsPutBack (R.meaning self.old.rules) R.Key.cmp self.old self.new key.now value epoch }
+        ensures before { result
+            ≡ atoms_of (R.meaning self.old.rules) R.Key.cmp self.old.rows key.now }
+        ensures set { IsPutBack (R.meaning self.old.rules) R.Key.cmp self.old self.new key.now value
+            epoch }
     {
         let Some(i) = find(&self.cells, key) else {
             unreachable!();
@@ -208,8 +214,15 @@ impl<R: Rules + Drop> Values<R> {
         key: &R::Key,
         steps: &mut Steps<L>,
     ) -> Mem<&R::Value>
-        ensures* left { sem 𝓛 (follows_so (the_row R.row R.Key.row R.Value.row R.Rules R.Key.Ord.own R.Key.PartialEq R.Key.PartialOrd.own R.Value.PartialEq) (the_row R.row R.Key.row R.Value.row R.Rules R.Key.Ord.own R.Key.PartialEq R.Key.PartialOrd.own R.Value.PartialEq) self.entry.ghost_name none (λ _ _. ⊤) (λ s. IsGot (R.meaning self.old.rules) R.Key.cmp self.old s × IfOk result (λ _. IsFreshKey s.rows s.fresh key.now))) }
-        ensures value { IfOk result (λ v. v.now ≡ value_in (R.meaning self.old.rules) R.Key.cmp self.old key.now) }
+        ensures* left { sem 𝓛
+            (follows_so (the_row R.row R.Key.row R.Value.row R.Rules R.Key.Ord.own R.Key.PartialEq
+            R.Key.PartialOrd.own R.Value.PartialEq)
+            (the_row R.row R.Key.row R.Value.row R.Rules R.Key.Ord.own R.Key.PartialEq
+            R.Key.PartialOrd.own R.Value.PartialEq) self.entry.ghost_name none (λ _ _. ⊤)
+            (λ s. IsGot (R.meaning self.old.rules) R.Key.cmp self.old s
+            × IfOk result (λ _. IsFreshKey s.rows s.fresh key.now))) }
+        ensures value { IfOk result
+            (λ v. v.now ≡ value_in (R.meaning self.old.rules) R.Key.cmp self.old key.now) }
         ensures free { IsFreshIn self.old key.now → steps.new ≡ steps.old }
     {
         let i = self.compute(alloc, key, steps)?;

@@ -40,7 +40,8 @@ pub(crate) fn change<R: Rules>(
     requires differs { IfSome (slice_get cells.old.rows.items i) (λ row. value ≢ row.value) }
     ensures before { IfSome (slice_get cells.old.rows.items i) (λ row. result ≡ row.value) }
     ensures written { IfSome (slice_get cells.old.rows.items i)
-        (λ row. IsWritten (R.meaning rules.now) R.Key.cmp cells.old cells.new i row value epoch true) }
+        (λ row. IsWritten (R.meaning rules.now) R.Key.cmp cells.old cells.new i row value epoch
+        true) }
 {
     let before = change_row(&mut cells.rows[i], value, epoch);
     mark(&mut cells.edges, &mut cells.fresh, i);
@@ -61,7 +62,8 @@ pub(crate) fn write<R: Rules>(
     requires atom { IfSome (slice_get cells.old.rows.items i)
         (λ row. (R.meaning rules.now).rank row.key ≡ 0) }
     ensures { IfSome (slice_get cells.old.rows.items i)
-        (λ row. IsWritten (R.meaning rules.now) R.Key.cmp cells.old cells.new i row value epoch result) }
+        (λ row. IsWritten (R.meaning rules.now) R.Key.cmp cells.old cells.new i row value epoch
+        result) }
 {
     if cells.rows[i].value == value {
         count_as_set(&mut cells.rows[i]);

@@ -6,7 +6,7 @@ pub const READ_WAIT: u64 = 50;
 /// How long a write waits for room, in milliseconds.
 pub const WRITE_WAIT: u64 = 5_000;
 
-/// How many waits may pass in a handshake.
+/// With this many waits a handshake fails. At most 99 pass in one that succeeds.
 pub const HANDSHAKE_WAITS: u32 = 100;
 
 /// How many bytes a message may have, and a frame: a text of 4,194,304 bytes, with its number as a
@@ -28,7 +28,8 @@ pub const DROPPED_PIECE: usize = 16_384;
 /// How many such reads there are at most.
 pub const DROPPED_READS: u32 = 1_024;
 
-/// How often it is accepted again where a connection was aborted before it was accepted.
+/// How many accepts there are at most for one link. Another follows where a connection was aborted before
+/// it was accepted, or a signal came.
 pub const ACCEPTS: u32 = 64;
 
 /// The code with which a link is closed for a reason of the room.

@@ -98,7 +98,7 @@ where
         // The one link is used up, by a fault too, and none is given only where none is left.
         ensures counted { UsesLink result (connects_left self.old) (connects_left self.new) }
 
-        // An answer without a link is a fault, unless the count is at its end.
+        // An error is a fault, unless the count is at its end.
         ensures memory { IfErr result
             (λ stop. stop ≡ OutOfMemory → connecting_faults self.old ≡ u64.MAX) }
 

@@ -5,8 +5,8 @@ ghost use Rattle.room_link.specs.declared.passing.Stop.TheVariants.{Failed, OutO
 use crate::exchange::Broken;
 use room_link::passing::Stop;
 
-/// Counts a fault, and answers it. A count at its end, 2^64 − 1, stands still; the answer is then that
-/// of a refused memory, since no fault is answered that isn't counted.
+/// Counts a fault, and returns it. A count at its end, 2^64 − 1, stands still; what is returned is then
+/// `OutOfMemory`, since no fault is returned that isn't counted.
 pub(crate) fn counted(faults: &mut u64) -> Stop
     ensures stays { faults.old ≤ faults.new }
     ensures failed { result ≡ Failed → faults.old < faults.new }
@@ -21,7 +21,7 @@ pub(crate) fn counted(faults: &mut u64) -> Stop
     }
 }
 
-/// The answer for what broke a call. A fault is counted.
+/// What a link returns for what broke a call. A fault is counted.
 pub(crate) fn stop_for(faults: &mut u64, broken: Broken) -> Stop
     ensures stays { faults.old ≤ faults.new }
     ensures failed { result ≡ Failed → faults.old < faults.new }

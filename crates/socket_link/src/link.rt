@@ -115,7 +115,8 @@ impl<S: Read + Write + OpenStream + Drop, K: Side> Link for SocketLink<S, K> {
     fn send(&mut self, text: &str) -> Result<(), Stop>
         // The text went into the socket.
         ensures sent { OnOk result
-            (WireSends K.role (heard_by S.contents) (wire_of self.old) (wire_of self.new) text.now) }
+            (WireSends K.role (heard_by S.contents) (wire_of self.old) (wire_of self.new)
+            text.now) }
 
         // As at any link.
         ensures faults_stay { link_faults self.old ≤ link_faults self.new }

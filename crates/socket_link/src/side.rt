@@ -18,7 +18,7 @@ pub trait Side: MaskKeys + Drop {
     /// Whether it is a server's or a client's.
     ghost role: { Role };
 
-    /// Makes the handshake of this side on a stream, within `HANDSHAKE_WAITS` waits.
+    /// Makes the handshake of this side on a stream. It fails where `HANDSHAKE_WAITS` waits have passed.
     fn shake_hands<S: Read + Write + OpenStream + Drop>(
         self,
         alloc: Global,
@@ -45,7 +45,7 @@ fn limited<S: Read + Write + Drop, K: MaskKeys + Drop>(socket: Socket<S, K>) -> 
     socket
 }
 
-// Goes on with a handshake to its end, within `HANDSHAKE_WAITS` waits.
+// Goes on with a handshake to its end. It fails where `HANDSHAKE_WAITS` waits have passed.
 fn finished<R: HandshakeRole + Drop>(rounds: MidHandshake<R>) -> Result<R::Finished, Broken>
     ensures { IfOk result (λ finished. (role : R) × R.gives role finished) }
 {

@@ -40,7 +40,8 @@ impl<'a, L: OpenListener> ListenerWorker<'a, L> {
     }
 }
 
-// Accepts a connection, and again where one was aborted before it was accepted.
+// Accepts a connection, and again where one was aborted before it was accepted or a signal came; `ACCEPTS` times
+// at most.
 fn accepted<L: OpenListener>(listener: &L) -> Option<L::Stream> {
     for _ in 0..ACCEPTS {
         match listener.accept() {

@@ -32,7 +32,8 @@ pub fn ids<D: DocStore>(
     index: Option<&FieldIndex>,
 ) -> Mem<Vec<Text>>
     ensures { ForSome index.entry (λ i. IsIndexOf (D.records store.now) i.now)
-        → IfOk result (λ ids. ids.items ≡ ids_meeting (D.records store.now) type_name.now query.now) }
+        → IfOk result (λ ids. ids.items
+        ≡ ids_meeting (D.records store.now) type_name.now query.now) }
 {
     match index {
         Some(index) => by_index(alloc, query, store, type_name, index),
@@ -49,7 +50,8 @@ fn by_index<D: DocStore>(
     index: &FieldIndex,
 ) -> Mem<Vec<Text>>
     ensures { IsIndexOf (D.records store.now) index.now
-        → IfOk result (λ ids. ids.items ≡ ids_meeting (D.records store.now) type_name.now query.now) }
+        → IfOk result (λ ids. ids.items
+        ≡ ids_meeting (D.records store.now) type_name.now query.now) }
 {
     if let Some(ids) = answer(alloc, query, type_name, index)? {
         return Ok(ids);
@@ -65,7 +67,8 @@ fn by_index<D: DocStore>(
 
 // The same without an index.
 fn by_walk<D: DocStore>(alloc: Global, query: &Query, store: &D, type_name: &str) -> Mem<Vec<Text>>
-    ensures { IfOk result (λ ids. ids.items ≡ ids_meeting (D.records store.now) type_name.now query.now) }
+    ensures { IfOk result (λ ids. ids.items
+        ≡ ids_meeting (D.records store.now) type_name.now query.now) }
 {
     tell_rising(store, type_name);
     let ids = ids_of_type(alloc, store, type_name)?;
@@ -125,7 +128,8 @@ fn candidates(
 
 // The ids of a type, in order.
 fn ids_of_type<D: DocStore>(alloc: Global, store: &D, type_name: &str) -> Mem<Vec<Text>>
-    ensures { IfOk result (λ ids. ids.items ≡ filter (is_id_of type_name.now) (keys_of (D.records store.now))) }
+    ensures { IfOk result (λ ids. ids.items
+        ≡ filter (is_id_of type_name.now) (keys_of (D.records store.now))) }
 {
     let mut ids = Vec::new(alloc);
     'ids: for id in store.ids(alloc)? {
@@ -138,7 +142,8 @@ fn ids_of_type<D: DocStore>(alloc: Global, store: &D, type_name: &str) -> Mem<Ve
 
 // Those of some ids whose record meets the query.
 fn met<D: DocStore>(alloc: Global, query: &Query, store: &D, ids: Vec<Text>) -> Mem<Vec<Text>>
-    ensures { IfOk result (λ found. found.items ≡ filter (meets_at (D.records store.now) query.now) ids.items) }
+    ensures { IfOk result (λ found. found.items
+        ≡ filter (meets_at (D.records store.now) query.now) ids.items) }
 {
     let mut found = Vec::new(alloc);
     'ids: for id in ids {

@@ -18,10 +18,10 @@ use tl_rules::{TlKey, TlValue};
 
 /// Brings an index up to the records of a store, in which no transaction is open, and notes the store's epoch.
 ///
-/// The index then holds the values of the store's records if it was never refreshed, if the store doesn't tell what was written
-/// since the index's epoch, or if it held the values of the records that those writes lead from. It costs what was written since, and a logarithm for each
-/// record among that. It looks at all records exactly where the index was never refreshed, or the store answers
-/// `Since::Reset`.
+/// The index then holds the values of the store's records if it was never refreshed, if the store doesn't tell what was
+/// written since the index's epoch, or if it held the values of the records that those writes lead from. It costs what was
+/// written since, and a logarithm for each record among that. It looks at all records exactly where the index was never
+/// refreshed, or the store's `diffs_since` returns `Since::Reset`.
 ///
 /// # Errors
 ///
@@ -51,7 +51,8 @@ pub fn refresh(index: &mut FieldIndex, alloc: Global, store: &RecordStore) -> Me
 
 // The same, but for the epoch and for what is left where memory is refused.
 fn refreshed(index: &mut FieldIndex, alloc: Global, store: &RecordStore) -> Mem<()>
-    ensures ok { OnOk result (CanRefresh index.old store.now → IsIndexOf (records store.now) index.new) }
+    ensures ok { OnOk result (CanRefresh index.old store.now
+        → IsIndexOf (records store.now) index.new) }
     ensures field { KeepsField index.old index.new }
 {
     let Some(epoch) = index.epoch() else {

@@ -36,7 +36,7 @@ asking request client = record client { connection = Asking request }
 abbrev pub asks : Versions → ℕ → Client → ClientMessage
 asks versions request client = said.Connect (decimal request) client.reached PROTOCOL versions
 
--- the answer to a call that connects it
+-- what a call returns by which a client asks to be connected
 abbrev pub connect_answer : Versions → ℕ → Client → Result ClientMessage ConnectFault
 connect_answer versions request client = option_map_or (λ fault. Err fault) (connect_fault client) (Ok (asks versions request client))
 

@@ -84,9 +84,14 @@ impl<D: DocStore> SyncClient<D> {
         }
     }
 
-    /// Does an edit, whose ids are the document's: its operations act as the step has it, and it is pending. Of a checked
-    /// edit each patch is known to act, and what it leaves isn't looked at again. Answers the diff that undoes what acted. It
-    /// costs what the diff names, at most a step for each operation. Where memory is refused the client is as before.
+    /// Does an edit, whose ids are the document's: its operations act as the step has it, and it is pending. Returns the
+    /// diff that undoes what acted. An edit costs what the diff names, at most a step for each operation. Where memory is
+    /// refused the client is as before.
+    ///
+    /// By `checked` the caller vouches for the diff. Where `checked` is true, the caller knows that each patch of the diff
+    /// acts: the patch leaves a record, and that record is admitted. A patch then acts wherever it leaves a record, and
+    /// those records aren't looked at again. Where the caller is wrong, nothing is said of what the client stands for, or of
+    /// the diff that is returned. Where `checked` is false, the caller vouches for nothing, and each patch is checked.
     pub fn edit<L: Ledger>(
         &mut self,
         alloc: Global,
@@ -146,7 +151,7 @@ impl<D: DocStore> SyncClient<D> {
         Ok(())
     }
 
-    /// Asks to be connected by a request, whose number the room's answer will name. What is answered is to be sent.
+    /// Asks to be connected by a request, whose number the room's answer will name. What is returned is to be sent.
     ///
     /// # Errors
     /// `AlreadyOpen` exactly where it has asked before or is connected; `Refused` exactly where the room ended a session of
@@ -230,9 +235,15 @@ impl<D: DocStore> SyncClient<D> {
 
     /// Takes a message of the room. An answer to its request connects it: its base is brought to the room's clock, the
     /// pending edits stay, and all is to be pushed, its own presence last. Data changes its base event by event, and
-    /// each result ends the first pending work. It costs what the message brings and what the works name that it ends, with
-    /// a walk over the works left for each of these ids that pending edits name, unless it commits the first works alone; for `WipeAll` all that is pending and the
-    /// base's document, and never the document otherwise.
+    /// each result ends the first pending work.
+    ///
+    /// Data costs what its events bring, and what the works name that these end. The works left are walked for each of these
+    /// ids that pending edits name. No work left is walked where each event commits the first work that is left then, and
+    /// these works name ids of the document alone. Where a presence changes, data also costs a copy of the presences' list.
+    ///
+    /// An answer with `WipePresence` costs what its diff names, and a walk over the works for each of these ids that pending
+    /// edits name. An answer with `WipeAll` costs what its diff names, all that is pending, and the base's document. No
+    /// other message costs the document.
     ///
     /// # Errors
     /// The first event at fault decides, and of an event the first cause in the order of `TakeFault`; `OutOfMemory` may
@@ -436,7 +447,8 @@ impl<D: DocStore> SyncClient<D> {
     ) -> Result<(), TakeFault>
         ensures fault { (held : Held) → Stands D.records held self.old
             → Gives take_fault_is.OutOfMemory (λ done. done) result (option_map_or
-            (λ fault. Err fault) (faults.events_fault held.client.pending held.client.reached events.now) (Ok tt)) }
+            (λ fault. Err fault)
+            (faults.events_fault held.client.pending held.client.reached events.now) (Ok tt)) }
         ensures ok { OnOk result ((held : Held) → Stands D.records held self.old
             → is_open held.client.connection ≡ true
             → Stands D.records (updated (admits_of self.old.replica)
@@ -453,7 +465,8 @@ impl<D: DocStore> SyncClient<D> {
             → steps.new ≤ steps.old + (brought events.now + 2 * operations (diffs_in
             (take (ended events.now) (works_in held.client.pending)))) }
         ensures own { OnOk result ((held : Held) → Stands D.records held self.old
-            → are_own (document_of self.old.replica) (works_in held.client.pending) events.now ≡ true
+            → are_own (document_of self.old.replica)
+            (works_in held.client.pending) events.now ≡ true
             → (steps.new ≡ steps.old) × (self.new.replica.store ≡ self.old.replica.store)) }
     {
         let first = self.counts.first();

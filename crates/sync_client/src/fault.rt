@@ -40,7 +40,7 @@ impl From<OutOfMemory> for TakeFault {
     }
 }
 
-/// Why a record can't be a client's presence. Of several causes the first in this order is answered.
+/// Why a record can't be a client's presence. Of several causes the first in this order is returned.
 #[derive(Drop, Error)]
 pub enum PresenceFault {
     /// The records under its id, which is given, aren't presences.

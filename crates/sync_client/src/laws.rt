@@ -14,7 +14,8 @@ ghost use Rattle.sync_client.specs.declared.client.SyncClient.{SyncClient};
 
 /// The base's document is what the store has with the stash written over it, so that a client needs no copy of it.
 pub fn bases_lie_under<D: Drop>()
-    ensures { (records : D → Pairs) (held : Held) (client : SyncClient D) → Stands records held client
+    ensures { (records : D → Pairs) (held : Held) (client : SyncClient D)
+        → Stands records held client
         → written_over client.replica.stash (records client.replica.store)
         ≡ records_with (document_of client.replica) held.base }
 {}
@@ -28,5 +29,6 @@ pub fn answers_are_snapshots()
 /// So does a presence that is set.
 pub fn presences_are_set()
     ensures { (d : Data) (client : Client) → after_presence d client
-        ≡ (if is_open client.connection then push_all (with_presence d client) else push_none (with_presence d client)) }
+        ≡ (if is_open client.connection then push_all (with_presence d client)
+        else push_none (with_presence d client)) }
 {}

@@ -2,8 +2,8 @@
 //!
 //! A client keeps a replica (`client_replica`), and beside it how far it is with its room: its connection, the clock that
 //! it has reached, how many of the pending works were sent, its own presence, and the reason for which the room won't have
-//! it. Contracts say for which of `room_model`'s clients, with which base, a client stands: a call's answer is that of the
-//! definition, and afterwards the client stands for the definition's next. The crate stands on `client_replica`.
+//! it. Contracts say for which of `room_model`'s clients, with which base, a client stands: a call returns what the
+//! definition says, and afterwards the client stands for the definition's next. The crate stands on `client_replica`.
 #![tactic(auto)]
 
 mod check;

@@ -1,4 +1,4 @@
--- What a client with its base shows, and how the calls of a peer answer.
+-- What a client with its base shows, and what the calls of a peer return.
 use Rattle.std.specs.Prelude.{ℕ, List, [], ◌∷◌, Option, Some, None, Result, Ok, Err}
 use Rattle.std.specs.Option.{option_map_or}
 use Rattle.rooms_val.specs.Data.{Data, Pairs}
@@ -43,7 +43,7 @@ abbrev pub done_unless : Option EditFault → Result (Unit {0}) EditFault
 done_unless None = Ok tt
 done_unless (Some fault) = Err fault
 
--- the answer to a presence, with the fault of an edit
+-- what a call returns that sets a presence, with the fault of an edit
 abbrev pub as_edit : Result (Unit {0}) PresenceFault → Result (Unit {0}) EditFault
 as_edit (Ok done) = Ok done
 as_edit (Err fault) = Err (edit_fault_of fault)

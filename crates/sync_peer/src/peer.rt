@@ -86,7 +86,7 @@ impl Peer {
     /// back. It costs what the diff names, at most a step for each operation, and what the edit before it changed.
     ///
     /// # Errors
-    /// The first rule of completion that refuses the edit decides; `OutOfMemory` may come in place of any answer. Then the
+    /// The first rule of completion that refuses the edit decides; `OutOfMemory` may come in place of any result. Then the
     /// peer is as before.
     pub fn edit<L: Ledger>(
         &mut self,
@@ -108,6 +108,7 @@ impl Peer {
         tell_rising(wanted);
         let diff = complete(alloc, self.client.schema(), self.client.store(), wanted)?;
         self.marks.edit(alloc)?;
+        // Each patch of a completed diff acts: completion has looked at what it leaves.
         let back = self.client.edit(alloc, diff, true, steps)?;
         self.marks.record(back);
         Ok(())
@@ -215,7 +216,7 @@ impl Peer {
         self.client.presence(alloc, record_)
     }
 
-    /// Asks to be connected by a request, whose number the room's answer will name. What is answered is to be sent.
+    /// Asks to be connected by a request, whose number the room's answer will name. What is returned is to be sent.
     ///
     /// # Errors
     /// `AlreadyOpen` exactly where it has asked before or is connected; `Refused` exactly where the room ended a session of
@@ -251,9 +252,16 @@ impl Peer {
     }
 
     /// Takes a message of the room. An answer to its request connects it: its base is brought to the room's clock, the
-    /// pending edits are replayed, and all is to be pushed, its own presence last. Data changes its base event by event, and
-    /// each result ends the first pending work. It costs what is pending and what the message brings, for `WipeAll` also
-    /// the base's document, and never the document otherwise.
+    /// pending edits stay, and all is to be pushed, its own presence last. Data changes its base event by event, and
+    /// each result ends the first pending work.
+    ///
+    /// Data costs what its events bring, and what the works name that these end. The works left are walked for each of these
+    /// ids that pending edits name. No work left is walked where each event commits the first work that is left then, and
+    /// these works name ids of the document alone. Where a presence changes, data also costs a copy of the presences' list.
+    ///
+    /// An answer with `WipePresence` costs what its diff names, and a walk over the works for each of these ids that pending
+    /// edits name. An answer with `WipeAll` costs what its diff names, all that is pending, and the base's document. No
+    /// other message costs the document.
     ///
     /// # Errors
     /// The first event at fault decides, and of an event the first cause in the order of `TakeFault`; `OutOfMemory` may
@@ -465,6 +473,7 @@ fn make<L: Ledger>(
     if diff.is_empty() {
         return Ok(diff);
     }
+    // Others may have changed the records since, so that nobody knows which patches act.
     client.edit(alloc, diff, false, steps)
 }
 

@@ -44,12 +44,14 @@ impl Room {
             → Drains state session.number
             (next_for (decided (tree_of self.old)) state session.number) given self.new) }
         ensures ticks { IfOk result (λ given. (state : model.Room) (s : model.Session) (clock : ℕ)
-            → Stands state self.old → session_at session.number state ≡ Some s → told_since state s.phase ≡ Some clock
+            → Stands state self.old → session_at session.number state ≡ Some s
+            → told_since state s.phase ≡ Some clock
             → steps.new ≤ steps.old + (length (changed_after clock state.history) + 1)) }
         ensures err { OnErr result (self.new ≡ self.old) }
 
         // Whoever was in the room still is, and the schema stays.
-        ensures others { (other : SessionId) → IsIn other self.old.sessions → IsIn other self.new.sessions }
+        ensures others { (other : SessionId) → IsIn other self.old.sessions
+            → IsIn other self.new.sessions }
         ensures schema { tree_of self.new ≡ tree_of self.old }
     {
         match next_kind(self.sessions.at(session)) {
@@ -64,8 +66,10 @@ impl Room {
         requires { ContainsKey self.old.sessions.present key }
         ensures told { told ≡ true → (result ≡ None) × (self.new ≡ self.old) }
         ensures untold { told ≡ false → (s : Session) → get self.old.sessions.present key ≡ Some s
-            → (result ≡ Some (out.End reason)) × IsChanged key (record s { phase = phase.Ended reason true }) self.old self.new }
-        ensures others { (other : SessionId) → IsIn other self.old.sessions → IsIn other self.new.sessions }
+            → (result ≡ Some (out.End reason))
+            × IsChanged key (record s { phase = phase.Ended reason true }) self.old self.new }
+        ensures others { (other : SessionId) → IsIn other self.old.sessions
+            → IsIn other self.new.sessions }
         ensures schema { tree_of self.new ≡ tree_of self.old }
     {
         if told {
@@ -83,7 +87,8 @@ impl Room {
         ensures pong { result ≡ out.Message ServerMessage.Pong }
         ensures fewer { (s : Session) → get self.old.sessions.present key ≡ Some s
             → IsChanged key (record s { pings = s.pings - 1 }) self.old self.new }
-        ensures others { (other : SessionId) → IsIn other self.old.sessions → IsIn other self.new.sessions }
+        ensures others { (other : SessionId) → IsIn other self.old.sessions
+            → IsIn other self.new.sessions }
         ensures schema { tree_of self.new ≡ tree_of self.old }
     {
         let pings = self.sessions.present[key].pings;
@@ -104,10 +109,12 @@ impl Room {
             → Sends (message_in (decided (tree_of self.old)) state s.number (session_of s)
             (phase_of s.phase)) key s given self.old self.new) }
         ensures ticks { IfOk result (λ given. (state : model.Room) (s : Session) (clock : ℕ)
-            → Stands state self.old → IsUnended key s self.old → told_since state (phase_of s.phase) ≡ Some clock
+            → Stands state self.old → IsUnended key s self.old
+            → told_since state (phase_of s.phase) ≡ Some clock
             → steps.new ≤ steps.old + (length (changed_after clock state.history) + 1)) }
         ensures err { OnErr result (self.new ≡ self.old) }
-        ensures others { (other : SessionId) → IsIn other self.old.sessions → IsIn other self.new.sessions }
+        ensures others { (other : SessionId) → IsIn other self.old.sessions
+            → IsIn other self.new.sessions }
         ensures schema { tree_of self.new ≡ tree_of self.old }
     {
         match self.message(alloc, key, steps)? {
@@ -133,7 +140,8 @@ impl Room {
             → said ≡ message_in (decided (tree_of self.now)) state s.number (session_of s)
             (phase_of s.phase)) }
         ensures ticks { IfOk result (λ said. (state : model.Room) (s : Session) (clock : ℕ)
-            → Stands state self.now → get self.now.sessions.present key ≡ Some s → told_since state (phase_of s.phase) ≡ Some clock
+            → Stands state self.now → get self.now.sessions.present key ≡ Some s
+            → told_since state (phase_of s.phase) ≡ Some clock
             → steps.new ≤ steps.old + (length (changed_after clock state.history) + 1)) }
     {
         let session = &self.sessions.present[key];

@@ -19,9 +19,12 @@ impl Room {
         requires { ContainsKey self.old.sessions.present key }
         ensures table { (s : Session) → get self.old.sessions.present key ≡ Some s
             → self.new.sessions ≡ with_at key (ended_by reason s) self.old.sessions }
-        ensures ended { (state : model.Room) (s : Session) → Agrees state self.old → IsUnended key s self.old
-            → (result ≡ is_present s.number state) × Agrees (close s.number (session_of s) (model.ended reason false) state) self.new }
-        ensures others { (other : SessionId) → IsIn other self.old.sessions → IsIn other self.new.sessions }
+        ensures ended { (state : model.Room) (s : Session) → Agrees state self.old
+            → IsUnended key s self.old
+            → (result ≡ is_present s.number state)
+            × Agrees (close s.number (session_of s) (model.ended reason false) state) self.new }
+        ensures others { (other : SessionId) → IsIn other self.old.sessions
+            → IsIn other self.new.sessions }
         ensures schema { tree_of self.new ≡ tree_of self.old }
     {
         match self.sessions.end(key, reason) {
@@ -33,9 +36,11 @@ impl Room {
     // Ends a session for a reason, and then those that have become too slow by that.
     pub(crate) fn refuse(&mut self, key: usize, reason: EndReason) -> Handled
         requires { ContainsKey self.old.sessions.present key }
-        ensures refused { (state : model.Room) (s : Session) → Agrees state self.old → IsUnended key s self.old
+        ensures refused { (state : model.Room) (s : Session) → Agrees state self.old
+            → IsUnended key s self.old
             → Follows (refuse s.number (session_of s) reason state) result self.new }
-        ensures others { (other : SessionId) → IsIn other self.old.sessions → IsIn other self.new.sessions }
+        ensures others { (other : SessionId) → IsIn other self.old.sessions
+            → IsIn other self.new.sessions }
         ensures schema { tree_of self.new ≡ tree_of self.old }
     {
         if !self.end(key, reason) {
@@ -49,8 +54,10 @@ impl Room {
     // has a presence makes an entry, it is asked anew after each. It costs a pass over the sessions
     // for each that is ended, and one more.
     pub(crate) fn end_slow(&mut self)
-        ensures ended { (state : model.Room) → Agrees state self.old → Agrees (end_slow state) self.new }
-        ensures others { (other : SessionId) → IsIn other self.old.sessions → IsIn other self.new.sessions }
+        ensures ended { (state : model.Room) → Agrees state self.old
+            → Agrees (end_slow state) self.new }
+        ensures others { (other : SessionId) → IsIn other self.old.sessions
+            → IsIn other self.new.sessions }
         ensures schema { tree_of self.new ≡ tree_of self.old }
     {
         'ends: while let Some(key) = self.first_slow() {
@@ -61,9 +68,12 @@ impl Room {
     // The key of the session with the least number of those that are too slow: more than 32 entries
     // lie above its sent clock, which lies below the start.
     fn first_slow(&self) -> Option<usize>
-        ensures live { IfSome result (λ key. (s : Session) × (get self.now.sessions.present key ≡ Some s) × (is_live s.phase ≡ true)) }
-        ensures first { IfSome result (λ key. (state : model.Room) → Agrees state self.now → IsFirstSlow state self.now key) }
-        ensures none { IfNone result ((state : model.Room) → Agrees state self.now → first_slow state ≡ None) }
+        ensures live { IfSome result (λ key. (s : Session)
+            × (get self.now.sessions.present key ≡ Some s) × (is_live s.phase ≡ true)) }
+        ensures first { IfSome result (λ key. (state : model.Room) → Agrees state self.now
+            → IsFirstSlow state self.now key) }
+        ensures none { IfNone result ((state : model.Room) → Agrees state self.now
+            → first_slow state ≡ None) }
     {
         let least = least_sent(self.history.starts_at(), self.history.clock());
         self.sessions.first_behind(least)

@@ -49,10 +49,12 @@ impl Room {
         ensures there { IfOk result (λ id. IsIn id self.new.sessions) }
         ensures full { (state : model.Room) → Stands state self.old
             → (result ≡ Err EnterFault.Full) ↔ (is_full state ≡ true) }
-        ensures err { OnErr result ((state : model.Room) → Stands state self.old → Stands state self.new) }
+        ensures err { OnErr result ((state : model.Room) → Stands state self.old
+            → Stands state self.new) }
 
         // Whoever was in the room still is, and the schema stays.
-        ensures others { (other : SessionId) → IsIn other self.old.sessions → IsIn other self.new.sessions }
+        ensures others { (other : SessionId) → IsIn other self.old.sessions
+            → IsIn other self.new.sessions }
         ensures schema { tree_of self.new ≡ tree_of self.old }
     {
         if self.sessions.is_full() {
@@ -63,8 +65,13 @@ impl Room {
         Ok(id)
     }
 
-    /// Lets a session leave that is in the room; if it isn't ended, its presence is removed by an
-    /// entry. It takes no memory, and costs a logarithm of the records.
+    /// Lets a session leave that is in the room. If the session isn't ended, its presence is removed by
+    /// an entry, where it is there. After such an entry each session is ended that has become too slow.
+    ///
+    /// A leave takes no memory, and costs a logarithm of the records. Where it makes an entry, it also
+    /// costs a pass over the sessions, of which there are 64 at most. Each session that is ended as too
+    /// slow costs one more such pass and a logarithm of the records. Where ids are forgotten, the leave
+    /// also costs those and a pass over the ids.
     pub fn leave(&mut self, session: SessionId)
         requires { IsIn session self.old.sessions }
         ensures left { (state : model.Room) → Stands state self.old

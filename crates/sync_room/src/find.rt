@@ -15,7 +15,8 @@ impl Room {
     /// costs a pass over the sessions, of which there are 64 at most.
     pub fn find(&self, number: u64) -> Option<SessionId>
         ensures found { IfSome result (λ id. (id.number ≡ number) × IsIn id self.now.sessions) }
-        ensures none { IfNone result ((state : model.Room) → Stands state self.now → session_at number state ≡ None) }
+        ensures none { IfNone result ((state : model.Room) → Stands state self.now
+            → session_at number state ≡ None) }
     {
         self.sessions.find(number)
     }

@@ -26,9 +26,12 @@ use std::sync::ledger::Ledger;
 use sync_msgs::{ClientMessage, EndReason};
 
 impl Room {
-    /// Takes a message of a session that is in the room, and tells what became of it. It costs what
-    /// the message says, a logarithm of the records for each id of its diff, and a pass over the
-    /// sessions.
+    /// Takes a message of a session that is in the room, and tells what became of it.
+    ///
+    /// A message costs what it says, and a logarithm of the records for each id of its diff. Where it
+    /// makes an entry, it also costs a pass over the sessions, of which there are 64 at most, and one
+    /// more for each that is ended as too slow. Each session that is ended costs a logarithm of the
+    /// records. Where ids are forgotten, the message also costs those and a pass over the ids.
     ///
     /// # Errors
     ///
@@ -44,10 +47,12 @@ impl Room {
         ensures step { IfOk result (λ reply. (state : model.Room) → Stands state self.old
             → Replies (after_message (decided (tree_of self.old)) state session.number message.now)
             reply self.new) }
-        ensures err { OnErr result ((state : model.Room) → Stands state self.old → Stands state self.new) }
+        ensures err { OnErr result ((state : model.Room) → Stands state self.old
+            → Stands state self.new) }
 
         // Whoever was in the room still is, and the schema stays.
-        ensures others { (other : SessionId) → IsIn other self.old.sessions → IsIn other self.new.sessions }
+        ensures others { (other : SessionId) → IsIn other self.old.sessions
+            → IsIn other self.new.sessions }
         ensures schema { tree_of self.new ≡ tree_of self.old }
 
         // The ids of the message's diff rise, as those of each diff do.
@@ -104,7 +109,8 @@ impl Room {
             Follows (after_connect (decided (tree_of self.old)) s.number (session_of s) ask state
             (phase_of s.phase)) reply self.new) }
         ensures err { OnErr result (self.new ≡ self.old) }
-        ensures others { (other : SessionId) → IsIn other self.old.sessions → IsIn other self.new.sessions }
+        ensures others { (other : SessionId) → IsIn other self.old.sessions
+            → IsIn other self.new.sessions }
         ensures schema { tree_of self.new ≡ tree_of self.old }
     {
         if !is_new(&self.sessions.present[key].phase) {
@@ -140,8 +146,10 @@ impl Room {
             → Agrees state self.old → IsUnended key s self.old
             → Follows (after_push (decided (tree_of self.old)) s.number (session_of s)
             (push_of push.entry) state (phase_of s.phase)) reply self.new) }
-        ensures err { OnErr result ((state : model.Room) → Agrees state self.old → Agrees state self.new) }
-        ensures others { (other : SessionId) → IsIn other self.old.sessions → IsIn other self.new.sessions }
+        ensures err { OnErr result ((state : model.Room) → Agrees state self.old
+            → Agrees state self.new) }
+        ensures others { (other : SessionId) → IsIn other self.old.sessions
+            → IsIn other self.new.sessions }
         ensures schema { tree_of self.new ≡ tree_of self.old }
     {
         match self.judge(alloc, key, push)? {
@@ -162,8 +170,10 @@ impl Room {
         ensures judged { IfOk result (λ judged. (state : model.Room) (s : Session)
             → Agrees state self.now → get self.now.sessions.present key ≡ Some s
             → Judges (decided (tree_of self.now)) state s (push_of push.entry) judged) }
-        ensures suits { IfOk result (λ judged. IfOk judged (Suits (tree_of self.now) self.now.history.kept.records.0)) }
-        ensures below { IfOk result (λ judged. OnOk judged (self.now.history.kept.clock <ℤ pos (2 ^ 53))) }
+        ensures suits { IfOk result
+            (λ judged. IfOk judged (Suits (tree_of self.now) self.now.history.kept.records.0)) }
+        ensures below { IfOk result
+            (λ judged. OnOk judged (self.now.history.kept.clock <ℤ pos (2 ^ 53))) }
     {
         let session = &self.sessions.present[key];
         let Phase::Live { plan, .. } = &session.phase else {
@@ -183,9 +193,11 @@ impl Room {
     // A ping waits to be answered, unless too many do.
     fn ping(&mut self, key: usize) -> Handled
         requires { ContainsKey self.old.sessions.present key }
-        ensures step { (state : model.Room) (s : Session) → Agrees state self.old → IsUnended key s self.old
+        ensures step { (state : model.Room) (s : Session) → Agrees state self.old
+            → IsUnended key s self.old
             → Follows (after_ping s.number (session_of s) state) result self.new }
-        ensures others { (other : SessionId) → IsIn other self.old.sessions → IsIn other self.new.sessions }
+        ensures others { (other : SessionId) → IsIn other self.old.sessions
+            → IsIn other self.new.sessions }
         ensures schema { tree_of self.new ≡ tree_of self.old }
     {
         let pings = self.sessions.present[key].pings;

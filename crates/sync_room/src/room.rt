@@ -47,7 +47,8 @@ impl Room {
         requires presence { HasPresences (schema_tree schema) }
         requires low { pos 1 ≤ℤ last }
         requires high { last ≤ℤ pos LAST_CLOCK }
-        ensures stands { IfOk result (λ room. (bound : ℕ) → last ≡ pos bound → Stands (model.new_room bound) room) }
+        ensures stands { IfOk result (λ room. (bound : ℕ) → last ≡ pos bound
+            → Stands (model.new_room bound) room) }
         ensures schema { IfOk result (λ room. tree_of room ≡ schema_tree schema) }
     {
         Ok(Room {
@@ -111,7 +112,8 @@ impl Room {
 
     /// The clock: how many entries there were.
     pub fn clock(&self) -> i64
-        ensures { (state : model.Room) → Stands state self.now → result ≡ pos (length state.history) }
+        ensures { (state : model.Room) → Stands state self.now
+            → result ≡ pos (length state.history) }
     {
         self.history.clock()
     }
@@ -135,7 +137,8 @@ impl Room {
     /// The records of the document, as a map by id. It costs a copy of all records.
     pub fn document(&self, alloc: Global) -> Mem<Val>
         ensures { IfOk result (λ v. (state : model.Room) → Stands state self.now
-            → data_of v ≡ map (members_of (records_with (is_document (tree_of self.now)) (records_of state.history)))) }
+            → data_of v ≡ map (members_of (records_with
+            (is_document (tree_of self.now)) (records_of state.history)))) }
     {
         self.records_of(alloc, false)
     }
@@ -143,7 +146,8 @@ impl Room {
     /// The presence of the sessions, as a map by id. It costs a copy of all records.
     pub fn presence(&self, alloc: Global) -> Mem<Val>
         ensures { IfOk result (λ v. (state : model.Room) → Stands state self.now
-            → data_of v ≡ map (members_of (records_with (is_presence (tree_of self.now)) (records_of state.history)))) }
+            → data_of v ≡ map (members_of (records_with
+            (is_presence (tree_of self.now)) (records_of state.history)))) }
     {
         self.records_of(alloc, true)
     }
@@ -151,7 +155,8 @@ impl Room {
     // The records of the presence, or else of the document, as a map by id.
     fn records_of(&self, alloc: Global, presence: bool) -> Mem<Val>
         ensures { IfOk result (λ v. AreRising self.now.history.kept.records.0
-            → data_of v ≡ map (members_of (filter (λ p. is_of_part (tree_of self.now) presence p.0) self.now.history.kept.records.0))) }
+            → data_of v ≡ map (members_of (filter
+            (λ p. is_of_part (tree_of self.now) presence p.0) self.now.history.kept.records.0))) }
     {
         let mut fields = Fields::new(alloc);
         'ids: for id in self.history.ids(alloc)? {
@@ -163,7 +168,8 @@ impl Room {
     // Adds a copy of the record of an id, where that is of the presence, or else of the document.
     fn copy_record(&self, alloc: Global, presence: bool, id: Text, fields: &mut Fields) -> Mem<()>
         ensures { OnOk result (fields.new ≡ (if is_of_part (tree_of self.now) presence id
-            then added fields.old id (value_at self.now.history.kept.records.0 id) else fields.old)) }
+            then added fields.old id (value_at self.now.history.kept.records.0 id)
+            else fields.old)) }
     {
         if !is_of_part(self.history.schema(), presence, id.as_str()) {
             return Ok(());

@@ -109,7 +109,8 @@ impl Sessions {
     pub(crate) fn reserve_push(&mut self, key: usize) -> Mem<()>
         requires { ContainsKey self.old.present key }
         ensures kept { (s : Session) → get self.old.present key ≡ Some s
-            → (t : Session) × IsWithPushed s.pushed.items s t × (self.new ≡ with_at key t self.old) }
+            → (t : Session) × IsWithPushed s.pushed.items s t
+            × (self.new ≡ with_at key t self.old) }
         ensures room { OnOk result (HasRoomToNote key self.new) }
         ensures there { ContainsKey self.new.present key }
     {
@@ -122,7 +123,8 @@ impl Sessions {
         requires there { ContainsKey self.old.present key }
         requires room { HasRoomToNote key self.old }
         ensures { (s : Session) → get self.old.present key ≡ Some s
-            → (t : Session) × IsWithPushed (s.pushed.items ++ client_clock ∷ []) s t × (self.new ≡ with_at key t self.old) }
+            → (t : Session) × IsWithPushed (s.pushed.items ++ client_clock ∷ []) s t
+            × (self.new ≡ with_at key t self.old) }
     {
         self.present[key].pushed.push_reserved(client_clock);
     }
@@ -131,7 +133,8 @@ impl Sessions {
     pub(crate) fn reach(&mut self, key: usize, clock: i64)
         requires { ContainsKey self.old.present key }
         ensures { (s : Session) → get self.old.present key ≡ Some s
-            → (t : Session) × IsWithPushed [] (record s { phase = reached clock s.phase }) t × (self.new ≡ with_at key t self.old) }
+            → (t : Session) × IsWithPushed [] (record s { phase = reached clock s.phase }) t
+            × (self.new ≡ with_at key t self.old) }
     {
         let session = &mut self.present[key];
         let phase = mem::replace(&mut session.phase, Phase::New);

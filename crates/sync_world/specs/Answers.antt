@@ -22,7 +22,7 @@ Answers schemas world outcome (Err fault) live = (outcome ≡ Err fault) × Keep
 abbrev pub Refuses : WorldSchemas EditFault → model.World → Outcome EditFault → StepFault EditFault → World → Type 0
 Refuses schemas world outcome fault code = (outcome ≡ Err fault) × Stands schemas world code
 
--- the same with want of memory, after which nothing more is said of the world
+-- the same of each fault but `OutOfMemory`; of that it is said only that memory ran out, and nothing more of the world
 abbrev pub Faults : WorldSchemas EditFault → model.World → Outcome EditFault → StepFault EditFault → World → Type 0
 Faults schemas world outcome NoSuchClient code = Refuses schemas world outcome NoSuchClient code
 Faults schemas world outcome NoSuchSession code = Refuses schemas world outcome NoSuchSession code
@@ -41,7 +41,7 @@ abbrev pub is_spent : Result (Vec OutLine) (StepFault EditFault) → Bool
 is_spent (Err OutOfMemory) = true
 is_spent other = false
 
--- the answer of a step
+-- what a step returns
 abbrev pub StepsTo : WorldSchemas EditFault → model.World → Outcome EditFault → Result (Vec OutLine) (StepFault EditFault) → World → Type 0
 StepsTo schemas world outcome (Ok lines) code = (made : Stepped) × (outcome ≡ Ok made) × (lines.items ≡ made.lines) × Stands schemas made.world code
 StepsTo schemas world outcome (Err fault) code = Faults schemas world outcome fault code

@@ -1,6 +1,6 @@
 //! A world: a room, the clients over it, and what is in flight between them, event by event.
 //!
-//! [`World::step`] lets one event of a recording happen, and answers the lines that it prints.
+//! [`World::step`] lets one event of a recording happen, and returns the lines that it prints.
 //! Contracts say for which world of `room_model`'s definitions a [`World`] stands
 //! (`specs/Standing.antt`): the room for its room, each peer for its client with the base that it
 //! has of the room, and the messages in flight for the notices that they tell. So what holds of

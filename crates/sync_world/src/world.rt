@@ -84,9 +84,10 @@ impl World {
         }
     }
 
-    /// Lets an event happen, and answers the lines that it prints; with `trace` also those of the
-    /// messages that it moves. A client's version is one of the tables. It costs what the room and the client
-    /// take for it, however many events came before; `Show`, `End`, `Copy` and `Paste` cost the document.
+    /// Lets an event happen, and returns the lines that it prints; with `trace` also those of the
+    /// messages that it moves. A client's version is one of the tables, and a paste moves by at most
+    /// 2^53 - 1 in each direction. It costs what the room and the client take for it, however many
+    /// events came before; `Show`, `End`, `Copy` and `Paste` cost the document.
     ///
     /// A bail to a mark makes the client show again what it showed when it made the mark, if since
     /// then it had edits, but no delivery but its end, undo, redo or bail, and made no mark of the
@@ -103,7 +104,7 @@ impl World {
     ///
     /// `NoSuchClient`, `NoSuchSession`, `NothingThere`, `Edit`, `Connect`, `NoMark`, `Limit`, `Clip`, `NoClip` and
     /// `Paste` exactly if the definitions refuse the event so; then the world is as before. After `OutOfMemory` every
-    /// further step answers it.
+    /// further step returns it.
     pub fn step<L: Ledger>(
         &mut self,
         alloc: Global,

@@ -34,8 +34,8 @@ abbrev pub below_known : ℕ → ℕ → List (List ℕ) → List TlValue → Li
 below_known levels left ids children =
     each (λ x. x.0) (λ room x. each (λ id. id) (below levels) room (ids_in x.1)) left (zip ids children)
 
--- the children of a page, and the shapes so many levels below their children. It asks for the children of all of them at once,
--- unless they are many
+-- the children of a page, and the shapes so many levels below their children. It asks for the children of all of them at
+-- once, unless they are many
 abbrev pub row_plan : ℕ → ℕ → List (List ℕ) → Listing
 row_plan levels left ids =
     if nat_le (length ids) most_at_once then chain (values_of key.ByParent ids) (below_known levels left ids)

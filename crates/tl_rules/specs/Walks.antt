@@ -18,8 +18,8 @@ id_view id = option_map (λ t. t.now) id
 abbrev pub room : List (List ℕ) → ℕ
 room listed = most_shapes - length listed
 
--- a walk of a run came to its place: it found that the children of an id are needed, or else it listed what the run ends with
--- after what was listed before, and left over the same answers
+-- a walk of a run came to its place: it found that the children of an id are needed, or else it listed what the run ends
+-- with after what was listed before, and left over the same answers
 abbrev pub HasWalked : Place TlKey TlValue (List (List ℕ)) → List (List ℕ) → List (List ℕ) → List TlValue → Option (List ℕ) → Type 0
 HasWalked (needs k) before after rest need = option_map key.ByParent need ≡ Some k
 HasWalked (ended out left_over) before after rest need = (need ≡ None) × (after ≡ before ++ out) × (rest ≡ left_over)

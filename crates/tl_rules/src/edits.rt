@@ -13,8 +13,9 @@ const MOST_TOGETHER: usize = 128;
 
 /// The ids with one more at a place, with a hint beside it (`Ids::guess`).
 ///
-/// The place is at most the number of ids. It costs a copy of the part that the id joins, of at most 128 ids, and a look at
-/// each other part; these are shared.
+/// The place is at most the number of ids. It costs a copy of the part that the id joins, and a look at each other part;
+/// these are shared. Parts have at most 128 ids in a list that [`with_id`] and [`without_id`] alone made of the empty one.
+/// A part that `Ids::of` or `Part::of` made may have any number.
 ///
 /// # Errors
 ///
@@ -34,8 +35,8 @@ pub fn with_id(alloc: Global, ids: &Ids, place: usize, id: &str, hint: &str) -> 
 
 /// The ids without the one at a place.
 ///
-/// The place is below the number of ids. It costs a copy of the part that the id leaves, and a look at each other part; these
-/// are shared.
+/// The place is below the number of ids. It costs a copy of the part that the id leaves, and a look at each other part;
+/// these are shared.
 ///
 /// # Errors
 ///
@@ -120,7 +121,8 @@ fn hints_of(parts: &[Part], at: usize) -> &[Text] {
     }
 }
 
-// The ids of some parts, where the ids of one are replaced by others, or these are added. Where they are many they are parted.
+// The ids of some parts, where the ids of one are replaced by others, or these are added. Where they are many they are
+// parted.
 fn with_part(
     alloc: Global,
     parts: &[Part],

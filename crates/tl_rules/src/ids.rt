@@ -12,7 +12,8 @@ use std::sync::Arc;
 #[derive(Drop)]
 struct Together {
     ids: Vec<Text>,
-    // By what each id was put at its place. They only help to find places: nothing is said of them, nor of how many there are.
+    // By what each id was put at its place. They only help to find places: nothing is said of them, nor of how many there
+    // are.
     hints: Vec<Text>,
 }
 
@@ -93,7 +94,8 @@ impl Part {
         }
     }
 
-    // How many ids come before an id with a hint, by their hints, if these are in order. It costs a logarithm of their number.
+    // How many ids come before an id with a hint, by their hints, if these are in order. It costs a logarithm of their
+    // number.
     fn guess(&self, hint: &str, id: &str) -> usize {
         let ids = self.as_slice();
         let hints = self.hints();
@@ -217,8 +219,9 @@ impl Ids {
         id_at(self.parts(), place)
     }
 
-    /// Where an id with a hint may stand, or go to, by the hints of the others. Only that it is within the list is known: who wants
-    /// the place looks whether it is right. It costs a comparison for each halving, and a look at each part before.
+    /// Where an id with a hint may stand, or go to, by the hints of the others. Only that it is within the list is known:
+    /// who wants the place looks whether it is right. It costs a comparison for each halving, and a look at each part
+    /// before.
     pub fn guess(&self, hint: &str, id: &str) -> usize
         ensures { result ≤ length self.now }
     {

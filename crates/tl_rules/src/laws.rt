@@ -12,8 +12,9 @@ ghost use Rattle.tl_rules.specs.declared.value.TlValue.TheVariants as told;
 ghost use Rattle.tl_rules.specs.Meaning.{tl_meaning};
 ghost use Rattle.tl_rules.specs.Atoms.{ArePlainAtoms};
 
-/// Where the atoms say what a map says, the value of each key is the plain query of that map. The keys
-/// of the map rise; nothing else is asked of it.
+/// Where the atoms say what a map says, the value of each computed key is the plain query of that map.
+/// `bound` alone asks that the keys of the map rise, and nothing else is asked of the map. `boxes` asks
+/// that a box looks at most `most_levels` levels down.
 pub fn values_are_plain_queries()
     ensures bound { (atoms : TlKey → TlValue) (m : Pairs) (id : List ℕ)
         → ArePlainAtoms atoms m → AreRising m

@@ -4,10 +4,10 @@
 //! (`specs/Plans.antt`). Over atoms that say what a map says (`specs/Atoms.antt`) the value of each key is what the plain
 //! query of `shape_tree` says of the map, by the law [`values_are_plain_queries`].
 //!
-//! The lists are of one kind for each atom that lists ids: the children of a parent in order, the bindings that go from an id,
-//! and those that go to it. Contracts see them as what is defined of a map (`specs/Listings.antt`): under which id an entry is
-//! listed, and where it stands there. The laws are that a record that comes, goes or moves changes the list that had it and
-//! the list that gets it, each at one place, and that a binary search finds the place.
+//! The lists are of one kind for each atom that lists ids: the children of a parent in order, the bindings that go from an
+//! id, and those that go to it. Contracts see them as what is defined of a map (`specs/Listings.antt`): under which id an
+//! entry is listed, and where it stands there. The laws are that a record that comes, goes or moves changes the list that
+//! had it and the list that gets it, each at one place, and that a binary search finds the place.
 #![tactic(auto)]
 
 mod bound;

@@ -9,8 +9,8 @@ ghost use Rattle.tl_rules.specs.declared.listing.Listing.{Listing};
 ghost use Rattle.tl_rules.specs.Listings.{owner_of, place_of, listed, is_before};
 ghost use Rattle.tl_rules.specs.ListLaws.{IsPlaceAmong, IsTakenOut};
 
-/// A place parts each list: no id that stands before the place comes after one that doesn't. So it is for the lists of the map
-/// without one record, whose ids are looked up in the whole map.
+/// A place parts each list: no id that stands before the place comes after one that doesn't. So it is for the lists of the
+/// map without one record, whose ids are looked up in the whole map.
 pub fn lists_are_parted()
     ensures whole { (l : Listing) (m : Pairs) (place : Sibling) (owner : List ℕ) → AreRising m
         → IsPartitionedBy (is_before l m place) (listed l m owner) }
@@ -26,8 +26,8 @@ pub fn a_record_is_taken_out()
         → IsTakenOut id n (listed l m owner) (listed l (without_key m id) owner) }
 {}
 
-/// A record that comes is put into the list of its owner, at the place where it stands. The others are looked up in a map that
-/// may have another record under its id.
+/// A record that comes is put into the list of its owner, at the place where it stands. The others are looked up in a map
+/// that may have another record under its id.
 pub fn a_new_record_is_put_in()
     ensures { (l : Listing) (m : Pairs) (id : List ℕ) (d : Data) (owner : List ℕ) (n : ℕ)
         → AreRising m → owner_of l (id, d) ≡ Some owner

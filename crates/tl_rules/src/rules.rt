@@ -16,8 +16,8 @@ use std::sync::ledger::Ledger;
 
 /// The rules of a board: what each key asks for, and what it comes to.
 ///
-/// Bindings, counts and boxes find what they need next at once. A tree walks through the answers so far, but for the children
-/// of the page itself. No answer is copied before the last ask.
+/// Bindings, counts and boxes find what they need next at once. A tree walks through the answers so far, but for the
+/// children of the page itself. No answer is copied before the last ask.
 #[derive(Clone, Copy)]
 pub struct TlRules;
 

@@ -48,8 +48,10 @@ pub(crate) fn ask_tree(alloc: Global, page: &Text, got: &[TlValue]) -> Mem<Ask<T
 // Lists the shapes below a page, or finds the one whose children are needed for that.
 fn list_page<'a>(walk: &mut Walk<'a>, page: &'a Text) -> Mem<Option<&'a Text>>
     ensures { IfOk result (λ need. HasWalked (place_after
-        (page_plan (most_levels - 2) (room (ids_view walk.old.ids.items)) page.now) walk.old.rest.now)
-        (ids_view walk.old.ids.items) (ids_view walk.new.ids.items) walk.new.rest.now (id_view need)) }
+        (page_plan (most_levels - 2) (room (ids_view walk.old.ids.items)) page.now)
+        walk.old.rest.now)
+        (ids_view walk.old.ids.items) (ids_view walk.new.ids.items) walk.new.rest.now
+        (id_view need)) }
 {
     let Some((first, rest)) = walk.rest.split_first() else {
         return Ok(Some(page));
@@ -61,8 +63,10 @@ fn list_page<'a>(walk: &mut Walk<'a>, page: &'a Text) -> Mem<Option<&'a Text>>
 // Lists the children of a page and the shapes below them, or finds the one whose children are needed for that.
 fn list_row<'a>(walk: &mut Walk<'a>, row: &'a TlValue) -> Mem<Option<&'a Text>>
     ensures { IfOk result (λ need. HasWalked (place_after
-        (row_plan (most_levels - 2) (room (ids_view walk.old.ids.items)) (ids_in row.now)) walk.old.rest.now)
-        (ids_view walk.old.ids.items) (ids_view walk.new.ids.items) walk.new.rest.now (id_view need)) }
+        (row_plan (most_levels - 2) (room (ids_view walk.old.ids.items)) (ids_in row.now))
+        walk.old.rest.now)
+        (ids_view walk.old.ids.items) (ids_view walk.new.ids.items) walk.new.rest.now
+        (id_view need)) }
 {
     let children = row.parts();
     if row.count() > MOST_AT_ONCE {
@@ -87,8 +91,10 @@ fn list_known<'a>(
 ) -> Mem<Option<&'a Text>>
     requires { length known.now ≡ length (flat parts.now) }
     ensures { IfOk result (λ need. HasWalked (place_after
-        (below_known levels (room (ids_view walk.old.ids.items)) (flat parts.now) known.now) walk.old.rest.now)
-        (ids_view walk.old.ids.items) (ids_view walk.new.ids.items) walk.new.rest.now (id_view need)) }
+        (below_known levels (room (ids_view walk.old.ids.items)) (flat parts.now) known.now)
+        walk.old.rest.now)
+        (ids_view walk.old.ids.items) (ids_view walk.new.ids.items) walk.new.rest.now
+        (id_view need)) }
 {
     let mut left = known;
     'parts: for part in parts {
@@ -114,7 +120,8 @@ fn list_known<'a>(
 fn list_below<'a>(walk: &mut Walk<'a>, parent: &'a Text, levels: u8) -> Mem<Option<&'a Text>>
     ensures { IfOk result (λ need. HasWalked (place_after
         (below levels (room (ids_view walk.old.ids.items)) parent.now) walk.old.rest.now)
-        (ids_view walk.old.ids.items) (ids_view walk.new.ids.items) walk.new.rest.now (id_view need)) }
+        (ids_view walk.old.ids.items) (ids_view walk.new.ids.items) walk.new.rest.now
+        (id_view need)) }
 {
     if levels == 0 {
         return Ok(None);
@@ -131,8 +138,10 @@ fn list_below<'a>(walk: &mut Walk<'a>, parent: &'a Text, levels: u8) -> Mem<Opti
 #[cycle(walk)]
 fn list_each<'a>(walk: &mut Walk<'a>, parts: &'a [Part], levels: u8) -> Mem<Option<&'a Text>>
     ensures { IfOk result (λ need. HasWalked (place_after
-        (each (λ id. id) (below levels) (room (ids_view walk.old.ids.items)) (flat parts.now)) walk.old.rest.now)
-        (ids_view walk.old.ids.items) (ids_view walk.new.ids.items) walk.new.rest.now (id_view need)) }
+        (each (λ id. id) (below levels) (room (ids_view walk.old.ids.items)) (flat parts.now))
+        walk.old.rest.now)
+        (ids_view walk.old.ids.items) (ids_view walk.new.ids.items) walk.new.rest.now
+        (id_view need)) }
 {
     'parts: for part in parts {
         'children: for child in part.as_slice() {

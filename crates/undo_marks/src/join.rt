@@ -32,7 +32,8 @@ pub(crate) fn join(alloc: Global, older: &mut Diff, newer: &Diff) -> Mem<()>
 fn join_at(alloc: Global, older: Option<&RecordOp>, newer: &RecordOp) -> Mem<RecordOp>
     requires older_plain { ForSome older (λ op. has_append (change_of op.now) ≡ false) }
     requires newer_plain { has_append (change_of newer.now) ≡ false }
-    ensures both { IfOk result (λ op. Some (change_of op) ≡ both_in_turn (Some (change_of newer.now))
+    ensures both { IfOk result
+        (λ op. Some (change_of op) ≡ both_in_turn (Some (change_of newer.now))
         (option_map (λ op. change_of op.now) older.entry)) }
     ensures plain { IfOk result (λ op. has_append (change_of op) ≡ false) }
 {

@@ -1,7 +1,7 @@
 //! What a client can take back and do again: marks, undo, redo and bail.
 //!
 //! [`Marks`] keeps a client's marks with the inverses of its edits, and what it took back. A change
-//! has two halves: first it begins, which takes all the memory and answers the diff that is to be
+//! has two halves: first it begins, which takes all the memory and returns the diff that is to be
 //! done to the document; then it is done, with the inverse of what acted, which takes none.
 //! Contracts say for which history and redo list of `doc_model`'s definitions a `Marks` stands
 //! (`specs/Standing.antt`), and what is begun (`specs/Begun.antt`). Where the history has many

@@ -117,7 +117,7 @@ impl Marks {
         self.begun = Begun::Nothing;
     }
 
-    /// Begins an undo, in place of what was begun before, and answers the diff that it does: the
+    /// Begins an undo, in place of what was begun before, and returns the diff that it does: the
     /// inverses since the last mark before them. `None` exactly where the history has no inverse; then
     /// nothing is begun. It costs a copy of them. History and redo list are as before; where memory is
     /// refused, so is what was begun.
@@ -165,8 +165,9 @@ impl Marks {
         });
     }
 
-    /// Begins a redo, in place of what was begun before, and answers the diff that it does. `None`
-    /// exactly where the redo list is empty; then nothing is begun. It costs a copy of the diff.
+    /// Begins a redo, in place of what was begun before, and returns the diff that it does. `None`
+    /// exactly where the redo list is empty; then nothing is begun. It costs a copy of the diff, and
+    /// what the newest inverse since the last mark names, as that one is merged with those before it.
     /// History and redo list are as before; where memory is refused, so is what was begun.
     pub fn redo(&mut self, alloc: Global) -> Mem<Option<Diff>>
         ensures diff { IfOk result (λ diff. (marks : model.Marks) → Stands marks self.old
@@ -208,7 +209,7 @@ impl Marks {
     }
 
     /// Begins to take back all since the last mark of a name, in place of what was begun before, and
-    /// answers the diff that does so. It costs a copy of what is taken back, for each mark in between.
+    /// returns the diff that does so. It costs a copy of what is taken back, for each mark in between.
     /// History and redo list are as before.
     ///
     /// # Errors

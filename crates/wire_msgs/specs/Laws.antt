@@ -15,7 +15,7 @@ OneClientEach = (a b : ClientMessage) → client_val a ≡ client_val b → a �
 abbrev pub OneServerEach : Type 0
 OneServerEach = (a b : ServerMessage) → server_val a ≡ server_val b → a ≡ b
 
--- an answer that keeps the contract of `read_client` is, for a text that stands for a message, this message or want of memory
+-- a result that keeps the contract of `read_client` is, for a text that stands for a message, this message or `OutOfMemory`
 abbrev pub ReadsTheClient : Type 0
 ReadsTheClient = (bytes : List ℕ) (r : Result ClientMessage MsgFault) → IfOk r (IsClient bytes) → IfErr r (RefusesClient bytes)
     → (m : ClientMessage) → IsClient bytes m → MatchResult r (λ x. x ≡ m) (λ f. f ≡ fault.OutOfMemory)

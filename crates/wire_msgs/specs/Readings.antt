@@ -58,7 +58,7 @@ IsOfClientType d f = (kind : ClientType) × IsOfType d (client_word kind) (clien
 abbrev pub IsOfServerType : Data → Option MsgFault → Type 0
 IsOfServerType d f = (kind : ServerType) × IsOfType d (server_word kind) (server_keys kind) f
 
--- the cause of each fault of a value that is read as a client's message; want of memory has none
+-- the cause of each fault of a value that is read as a client's message; `OutOfMemory` alone has none
 abbrev pub RefusesClientVal : Data → MsgFault → Type 0
 RefusesClientVal d (fault.Val f) = ⊥
 RefusesClientVal d fault.UnknownType = (kind : ClientType) → ¬ (type_in d ≡ Some (client_word kind))

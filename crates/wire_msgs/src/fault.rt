@@ -6,7 +6,7 @@ ghost use Rattle.wire_msgs.specs.declared.fault.MsgFault.TheVariants as msg_faul
 use rooms_val::{OpFault, OutOfMemory, ValFault};
 use thiserror::Error;
 
-/// Why a text isn't read as a message. Of several causes the first in this order is answered.
+/// Why a text isn't read as a message. Of several causes the first in this order is returned.
 #[derive(Clone, Copy, Debug, PartialEq, Eq, Error)]
 pub enum MsgFault {
     /// The text is no value, or a client's message nests more than 56 deep.

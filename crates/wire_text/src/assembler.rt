@@ -70,7 +70,8 @@ impl Assembler {
     pub fn feed(&mut self, alloc: Global, piece: &str) -> Result<Option<Text>, PieceFault>
         ensures gives { (p : PieceTree) → Says p piece.now →
             Gives OutOfMemory (λ text. text) result (given self.old p) }
-        ensures leaves { (p : PieceTree) → Says p piece.now → IfOk result (λ _. self.new ≡ after self.old p) }
+        ensures leaves { (p : PieceTree) → Says p piece.now
+            → IfOk result (λ _. self.new ≡ after self.old p) }
         ensures bad { IsNoPiece piece.now → result ≡ Err BadPiece }
         ensures empties { IfErr result (λ _. self.new ≡ empty self.old.limit) }
     {

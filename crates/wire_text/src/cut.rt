@@ -58,7 +58,7 @@ fn part_length(text: &str) -> usize
 
 /// The piece of a part: the part after the number of those to come and `_`.
 ///
-/// Costs a copy of the part.
+/// Costs two copies of the part: one behind the number, and one of both together.
 pub fn numbered_part(alloc: Global, to_come: usize, part: &str) -> Mem<Text>
     ensures { IfOk result (λ piece. piece ≡ decimal to_come ++ 95 ∷ part.now) }
 {

@@ -6,7 +6,7 @@ use rooms_val::OutOfMemory;
 use std::alloc::AllocError;
 use thiserror::Error;
 
-/// Why a piece isn't taken. Of several causes the first in this order is answered.
+/// Why a piece isn't taken. Of several causes the first in this order is returned.
 #[derive(Clone, Copy, Debug, PartialEq, Eq, Error)]
 pub enum PieceFault {
     /// It is neither a whole text nor a part after a count.

@@ -43,7 +43,8 @@ clock_after held [] = held
 clock_after held (Patch diff clock ∷ events) = clock_after clock events
 clock_after held (PushResult client_clock clock action ∷ events) = clock_after clock events
 
--- a client expects what it is given on a session: while it asks, the answer to its request; while it is connected, events in order
+-- a client expects what it is given on a session: while it asks, the answer to its request; while it is connected, events in
+-- order or a pong; and at any time the end of the session
 abbrev pub IsExpected : Client → ℕ → Out → Type 0
 IsExpected client k (Message (reply.Connect hydration request protocol versions diff clock readonly)) = (client.connection ≡ Asking k) × (request ≡ decimal k)
 IsExpected client k (Message (reply.Data events)) = (client.connection ≡ Open k) × AreInOrder client.reached client.pending events

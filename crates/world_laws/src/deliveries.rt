@@ -24,10 +24,11 @@ pub fn queues_hold_what_is_told<F: Drop>()
         → AreQueues schemas made.world (queues_after schemas world queues event) }
 {}
 
-/// What comes next to a client is what it expects: an answer to its request while it asks; or,
-/// while it is connected, events whose clocks never fall, and whose results are those of the
-/// first items that are pending, in order. And to take it is the delivery: it brings the client's base
-/// and clock, and by events also what is pending, to those of the client after the notice.
+/// What comes next to a client is what it expects. While the client asks, this is the answer to its
+/// request. While the client is connected, it is a pong, or events whose clocks never fall, and whose
+/// results are those of the first items that are pending, in order. In either case it may be the end
+/// of the session. And to take it is the delivery: it brings the client's base and clock, and by
+/// events also what is pending, to those of the client after the notice.
 pub fn what_comes_next_is_taken<F: Drop>()
     ensures { (schemas : WorldSchemas F) (world : World) (number k : ℕ) (client : Client)
         (channel : Channel) (notice : Notice) (notices : List Notice)

@@ -53,7 +53,8 @@ impl Queues {
     ///
     /// Memory was refused; some of the messages may be in the queue.
     pub fn send_all(&mut self, session: u64, messages: Vec<ClientMessage>) -> Mem<()>
-        ensures sent { OnOk result (to_room self.new ≡ with_all session messages.items (to_room self.old)) }
+        ensures sent { OnOk result (to_room self.new
+            ≡ with_all session messages.items (to_room self.old)) }
         ensures given { to_client self.new ≡ to_client self.old }
     {
         match self.channels.get_mut(session as usize) {
@@ -65,7 +66,8 @@ impl Queues {
     /// Puts what the room gave out for a session into the session's queue, behind what is there;
     /// nowhere if no such session has entered. Where memory is refused nothing changes.
     pub fn give(&mut self, session: u64, out: Out) -> Mem<()>
-        ensures given { OnOk result (to_client self.new ≡ with_last session out (to_client self.old)) }
+        ensures given { OnOk result (to_client self.new
+            ≡ with_last session out (to_client self.old)) }
         ensures err { OnErr result (to_client self.new ≡ to_client self.old) }
         ensures sent { to_room self.new ≡ to_room self.old }
     {

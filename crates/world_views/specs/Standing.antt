@@ -52,8 +52,8 @@ pub record Stands (schemas : WorldSchemas EditFault) (viewed : Viewed) (code : V
   pub going : code.spent ≡ false
   pub keeps : Keeps schemas viewed code.world
 
--- a step answers the lines, and the code stands for the next world. Or it answers the fault, and the code stands for the world as it was.
--- After want of memory nothing is said
+-- a step returns the lines, and the code stands for the next world. Or it returns the fault, and the code stands for the world as it was.
+-- Where memory ran out nothing is said
 abbrev pub StepsTo : WorldSchemas EditFault → Viewed → Outcome EditFault → Result (Vec PrintedLine) (StepFault EditFault) → ViewedWorld → Type 0
 StepsTo schemas viewed outcome (Ok lines) code = (made : Stepped) × (outcome ≡ Ok made) × (lines.items ≡ made.lines) × Stands schemas made.viewed code
 StepsTo schemas viewed outcome (Err fault) code = fault ≢ OutOfMemory → (outcome ≡ Err fault) × Stands schemas viewed code
@@ -63,7 +63,8 @@ abbrev pub is_spent : Result (Vec PrintedLine) (StepFault EditFault) → Bool
 is_spent (Err OutOfMemory) = true
 is_spent other = false
 
--- if the event is a join, the client's version is one of the tables'
+-- where a client joins, its version is one of the tables'; a paste moves by at most 2^53 - 1 in each direction. Any watch and
+-- any query is playable
 abbrev pub IsPlayable : RecordedEvent → Type 0
 IsPlayable (recorded.World e) = IsPlayed e
 IsPlayable other = Unit {0}

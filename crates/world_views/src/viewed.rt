@@ -67,20 +67,21 @@ impl ViewedWorld {
         }
     }
 
-    /// Lets an event of a recording happen, and answers the lines that it prints: its own, with
+    /// Lets an event of a recording happen, and returns the lines that it prints: its own, with
     /// `trace` also those of the messages that it moves, and then what each client has to tell, by
-    /// client and by watch. A client's version is one of the tables. It costs what the event costs in the
-    /// world, and a look at each watch of the one client whose document or watches it may change; a
-    /// query costs a walk over the ids of what its client shows.
+    /// client and by watch. A client's version is one of the tables, and a paste moves by at most
+    /// 2^53 - 1 in each direction. It costs what the event costs in the world, and a look at each watch
+    /// of the one client whose document or watches it may change; a query costs a walk over the ids of
+    /// what its client shows.
     ///
     /// A bail and an undo bring back what their client showed, under the conditions of
     /// `World::step`. What that says of the clients and of the room's history afterwards holds here.
     ///
     /// # Errors
     ///
-    /// `NoSuchClient`, `NoSuchSession`, `NothingThere`, `Edit`, `Connect`, `NoMark` and `Limit` exactly if
-    /// the definitions refuse the event so; then the world is as before. After `OutOfMemory` every
-    /// further step answers it.
+    /// `NoSuchClient`, `NoSuchSession`, `NothingThere`, `Edit`, `Connect`, `NoMark`, `Limit`, `Clip`,
+    /// `NoClip` and `Paste` exactly if the definitions refuse the event so; then the world is as before.
+    /// After `OutOfMemory` every further step returns it.
     pub fn step<L: Ledger>(
         &mut self,
         alloc: Global,
