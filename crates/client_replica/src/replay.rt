@@ -124,13 +124,13 @@ pub(crate) fn replay_at(
         → value_at (replay (is_admitted (schema_tree schema.now)) m (diffs_in
         (map work_of (drop from works.now.items)))) id.now ≡ maybe_data after) }
 {
-    let mut record_ = Val::copy_slot(alloc, slot)?;
+    let mut stored = Val::copy_slot(alloc, slot)?;
     let mut place = from;
     'works: while let Some(work) = work_at(works, place) {
-        record_ = replay_work_at(alloc, schema, work, id, record_)?;
+        stored = replay_work_at(alloc, schema, work, id, stored)?;
         place += 1;
     }
-    Ok(record_)
+    Ok(stored)
 }
 
 // What a work makes of the record under an id, or of the lack of one.

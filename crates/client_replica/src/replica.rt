@@ -128,15 +128,15 @@ impl<D: DocStore> Replica<D> {
     }
 
     /// A presence is pending. Where memory is refused nothing changes.
-    pub fn show(&mut self, record_: Val) -> Mem<()>
+    pub fn show(&mut self, stored: Val) -> Mem<()>
         ensures ok { OnOk result ((replica : model.Replica) → Stands D.records replica self.old
-            → Stands D.records (with_work (presence (data_of record_)) replica) self.new) }
+            → Stands D.records (with_work (presence (data_of stored)) replica) self.new) }
         ensures err { OnErr result ((replica : model.Replica) → Stands D.records replica self.old
             → Stands D.records replica self.new) }
         ensures schema { self.new.schema ≡ self.old.schema }
         ensures store { self.new.store ≡ self.old.store }
     {
-        self.works.push_back(Work::Presence(record_))?;
+        self.works.push_back(Work::Presence(stored))?;
         Ok(())
     }
 
@@ -244,8 +244,8 @@ impl<D: DocStore> Replica<D> {
     {
         self.works.reserve(1)?;
         self.hydrate(alloc, hydration, diff, steps)?;
-        if let Some(record_) = own {
-            self.works.push_back_reserved(Work::Presence(record_));
+        if let Some(stored) = own {
+            self.works.push_back_reserved(Work::Presence(stored));
         }
         Ok(())
     }

@@ -75,13 +75,13 @@ impl Stash {
     }
 
     // Holds a copy of what stands under an id that it doesn't hold. Where memory is refused nothing changes.
-    fn insert(&mut self, alloc: Global, id: &str, record_: Option<&Val>) -> Mem<()>
+    fn insert(&mut self, alloc: Global, id: &str, stored: Option<&Val>) -> Mem<()>
         ensures ok { OnOk result (self.new
-            ≡ with_key self.old id.now (maybe_data (option_copied record_.entry))) }
+            ≡ with_key self.old id.now (maybe_data (option_copied stored.entry))) }
         ensures err { OnErr result (self.new ≡ self.old) }
     {
         let key = String::from_str(alloc, id)?;
-        let slot = Val::copy_of(alloc, record_)?;
+        let slot = Val::copy_of(alloc, stored)?;
         match self.tree.insert(key, slot) {
             Ok(old) => {
                 drop(old);
@@ -241,8 +241,8 @@ impl Stash {
         let mut shown = Stash::new(alloc);
         for (id, slot) in &self.tree {
             shown.tell_rising();
-            let record_ = stash.replayed_at(alloc, schema, works, from, id.as_str(), slot)?;
-            shown.put(String::from_str(alloc, id.as_str())?, record_)?;
+            let stored = stash.replayed_at(alloc, schema, works, from, id.as_str(), slot)?;
+            shown.put(String::from_str(alloc, id.as_str())?, stored)?;
         }
         Ok(shown)
     }

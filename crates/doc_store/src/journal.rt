@@ -34,12 +34,12 @@ pub(crate) fn write(
     slots: &mut Slots,
     alloc: Global,
     id: &str,
-    record_: Option<Val>,
+    stored: Option<Val>,
 ) -> Mem<Option<Val>>
     requires { IsUndoable (notes_of journal.old.items) slots.old }
     ensures old { IfOk result (λ r. maybe_data r ≡ value_at (present slots.old) id.now) }
     ensures ok { OnOk result
-        (present slots.new ≡ set_at (present slots.old) id.now (maybe_data record_)) }
+        (present slots.new ≡ set_at (present slots.old) id.now (maybe_data stored)) }
     ensures err { OnErr result (present slots.new ≡ present slots.old) }
     ensures undoable { IsUndoable (notes_of journal.new.items) slots.new }
     ensures begun { begun (notes_of journal.new.items) slots.new
@@ -50,7 +50,7 @@ pub(crate) fn write(
     let key = String::from_str(alloc, id)?;
     let before = slots.slot(alloc, id)?;
     journal.push(Entry::Wrote(String::from_str(alloc, id)?, before))?;
-    let old = slots.put(key, record_)?;
+    let old = slots.put(key, stored)?;
     Ok(held(old))
 }
 
@@ -59,15 +59,15 @@ pub(crate) fn write_plain(
     slots: &mut Slots,
     alloc: Global,
     id: &str,
-    record_: Option<Val>,
+    stored: Option<Val>,
 ) -> Mem<Option<Val>>
     ensures old { IfOk result (λ r. maybe_data r ≡ value_at (present slots.old) id.now) }
     ensures ok { OnOk result
-        (present slots.new ≡ set_at (present slots.old) id.now (maybe_data record_)) }
+        (present slots.new ≡ set_at (present slots.old) id.now (maybe_data stored)) }
     ensures err { OnErr result (present slots.new ≡ present slots.old) }
     ensures full { AreFull slots.old → AreFull slots.new }
 {
-    match record_ {
+    match stored {
         Some(val) => Ok(held(slots.put(String::from_str(alloc, id)?, Some(val))?)),
         None => Ok(take_plain(slots, id)),
     }

@@ -85,14 +85,14 @@ impl DocStore for MapDoc {
         &mut self,
         alloc: Global,
         id: &str,
-        record_: Option<Val>,
+        stored: Option<Val>,
         steps: &mut Steps<L>,
     ) -> Mem<Option<Val>> {
         steps.tick();
         if self.depth == 0 {
-            return journal::write_plain(&mut self.slots, alloc, id, record_);
+            return journal::write_plain(&mut self.slots, alloc, id, stored);
         }
-        journal::write(&mut self.journal, &mut self.slots, alloc, id, record_)
+        journal::write(&mut self.journal, &mut self.slots, alloc, id, stored)
     }
 
     fn begin(&mut self) -> Result<(), TxnFault> {

@@ -129,15 +129,15 @@ pub fn step_record(
     schema: &Schema,
     checked: bool,
     id: &str,
-    record_: Option<&Val>,
+    stored: Option<&Val>,
     op: &RecordOp,
 ) -> Mem<Option<Option<Val>>>
     ensures { IfOk result (λ left. option_map maybe_data left
         ≡ left_on (admits_by checked (schema_tree schema.now)) id.now (change_of op.now)
-        (maybe_data (option_copied record_.entry))) }
+        (maybe_data (option_copied stored.entry))) }
 {
-    let after = apply_record(alloc, record_, op)?;
-    if acts(schema, checked, id, record_, &after, op) {
+    let after = apply_record(alloc, stored, op)?;
+    if acts(schema, checked, id, stored, &after, op) {
         Ok(Some(after))
     } else {
         Ok(None)

@@ -46,12 +46,12 @@ pub trait DocStore {
         &mut self,
         alloc: Global,
         id: &str,
-        record_: Option<Val>,
+        stored: Option<Val>,
         steps: &mut Steps<L>,
     ) -> Mem<Option<Val>>
         ensures old { IfOk result (λ r. maybe_data r ≡ value_at (records self.old) id.now) }
         ensures ok { OnOk result
-            (records self.new ≡ set_at (records self.old) id.now (maybe_data record_)) }
+            (records self.new ≡ set_at (records self.old) id.now (maybe_data stored)) }
         ensures err { OnErr result (records self.new ≡ records self.old) }
         ensures ticked { OnOk result (steps.new ≡ steps.old + 1) }
         ensures untold { OnErr result (steps.new ≤ steps.old + 1) }

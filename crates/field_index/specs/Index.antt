@@ -10,11 +10,11 @@ use Rattle.shape_tree.specs.Records.{is_id_of}
 
 -- the value of a field, where there is a record that has the field
 abbrev pub field_of : List ℕ → Option Data → Option Data
-field_of name record_ = option_and_then (λ d. field d name) record_
+field_of name stored = option_and_then (λ d. field d name) stored
 
 -- the value that is indexed of an id with this record or none
 abbrev pub value_of : List ℕ → List ℕ → List ℕ → Option Data → Option Data
-value_of type name id record_ = if is_id_of type id then field_of name record_ else None
+value_of type name id stored = if is_id_of type id then field_of name stored else None
 
 -- of the records of a type those that have the field, each id with the field's value
 abbrev pub indexed : List ℕ → List ℕ → Pairs → Pairs
@@ -22,7 +22,7 @@ indexed type name m = filter_map (λ e. option_map (λ v. (e.0, v)) (value_of ty
 
 -- the values once an id has this record or none; an id of another type changes nothing
 abbrev pub with_record : List ℕ → List ℕ → Pairs → List ℕ → Option Data → Pairs
-with_record type name values id record_ = if is_id_of type id then set_at values id (field_of name record_) else values
+with_record type name values id stored = if is_id_of type id then set_at values id (field_of name stored) else values
 
 -- a value is a greater whole number
 abbrev pub is_greater : ℤ → Data → Bool

@@ -81,17 +81,17 @@ impl FieldIndex {
     /// # Errors
     ///
     /// Memory was refused, and nothing changed.
-    pub fn set(&mut self, alloc: Global, id: &str, record_: Option<&Val>) -> Mem<()>
+    pub fn set(&mut self, alloc: Global, id: &str, stored: Option<&Val>) -> Mem<()>
         ensures ok { OnOk result (self.new ≡ record self.old {
           values = with_record self.old.type_name self.old.field self.old.values id.now
-              (maybe_data record_.entry);
+              (maybe_data stored.entry);
         }) }
         ensures err { OnErr result (self.new ≡ self.old) }
     {
         if !is_id_of(self.type_name.as_str(), id) {
             return Ok(());
         }
-        match field_of(record_, self.field.as_str()) {
+        match field_of(stored, self.field.as_str()) {
             Some(value) => self.values.put(alloc, id, value),
             None => self.values.take(alloc, id),
         }

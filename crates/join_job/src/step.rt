@@ -51,10 +51,7 @@ fn step_of(event: RecordedEvent) -> Option<(u64, Step)>
 {
     let (client, act) = match event {
         RecordedEvent::World(Event::Edit { client, diff }) => (client, Act::Edit(diff)),
-        RecordedEvent::World(Event::Presence { client, record_ }) => (
-            client,
-            Act::Presence(record_),
-        ),
+        RecordedEvent::World(Event::Presence { client, stored }) => (client, Act::Presence(stored)),
         RecordedEvent::World(Event::Mark { client, name }) => (client, Act::Mark(name)),
         RecordedEvent::World(Event::Undo { client }) => (client, Act::Undo),
         RecordedEvent::World(Event::Redo { client }) => (client, Act::Redo),

@@ -102,8 +102,8 @@ pub(crate) fn events_of(alloc: Global, draw: Draw, last: &[u64; 4]) -> Mem<Vec<E
         Act::Move { shape, x } => edit(alloc, client, shape, shift(alloc, x)?),
         Act::Remove { shape } => edit(alloc, client, shape, RecordOp::Remove),
         Act::Point { x } => {
-            let record_ = Val::Map(presence(alloc, draw.client, x)?);
-            only(alloc, Event::Presence { client, record_ })
+            let stored = Val::Map(presence(alloc, draw.client, x)?);
+            only(alloc, Event::Presence { client, stored })
         }
         Act::Mark => {
             let name = Text::of(alloc, "m")?;

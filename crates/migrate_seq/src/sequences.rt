@@ -91,12 +91,12 @@ impl Sequences {
     }
 
     /// A record after the migrations of a plan, in their order.
-    pub fn up(&self, alloc: Global, plan: &Plan, record_: &Val) -> Mem<Val>
+    pub fn up(&self, alloc: Global, plan: &Plan, stored: &Val) -> Mem<Val>
         requires { IsTrue (is_of_records plan.now) }
         ensures { IfOk result (λ v. data_of v ≡ raised_along
-            (migrations_at (sequences_of self.now) (places_in plan.now)) (data_of record_.now)) }
+            (migrations_at (sequences_of self.now) (places_in plan.now)) (data_of stored.now)) }
     {
-        let mut after = record_.copy(alloc)?;
+        let mut after = stored.copy(alloc)?;
         for place in plan.places() {
             if let Some(migration) = self.at(*place) {
                 after = migrate(alloc, migration, Way::Up, after)?;
@@ -122,13 +122,13 @@ impl Sequences {
     }
 
     /// A record after the migrations of a plan are run down, the last one first.
-    pub fn down(&self, alloc: Global, plan: &Plan, record_: &Val) -> Mem<Val>
+    pub fn down(&self, alloc: Global, plan: &Plan, stored: &Val) -> Mem<Val>
         requires { IsTrue (goes_both_ways plan.now) }
         ensures { IfOk result (λ v. data_of v ≡ lowered_along
-            (migrations_at (sequences_of self.now) (places_in plan.now)) (data_of record_.now)) }
+            (migrations_at (sequences_of self.now) (places_in plan.now)) (data_of stored.now)) }
     {
         let places = plan.places();
-        let mut after = record_.copy(alloc)?;
+        let mut after = stored.copy(alloc)?;
         let mut left = places.len();
         'places: while 0 < left {
             left -= 1;

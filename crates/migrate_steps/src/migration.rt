@@ -64,16 +64,16 @@ pub struct Sequence {
 /// # Errors
 ///
 /// Memory was refused; the record is lost.
-pub fn migrate(alloc: Global, migration: &Migration, way: Way, record_: Val) -> Mem<Val>
+pub fn migrate(alloc: Global, migration: &Migration, way: Way, stored: Val) -> Mem<Val>
     requires { IsTrue (list_all can_scale migration.now.steps.items) }
-    ensures { IfOk result (λ v. data_of v ≡ migrated way migration.now (data_of record_)) }
+    ensures { IfOk result (λ v. data_of v ≡ migrated way migration.now (data_of stored)) }
 {
-    if !passes(&migration.filter, &record_) {
-        return Ok(record_);
+    if !passes(&migration.filter, &stored) {
+        return Ok(stored);
     }
     match way {
-        Way::Up => raise(alloc, &migration.steps, record_),
-        Way::Down => lower(alloc, &migration.steps, record_),
+        Way::Up => raise(alloc, &migration.steps, stored),
+        Way::Down => lower(alloc, &migration.steps, stored),
     }
 }
 
@@ -94,8 +94,8 @@ pub fn migrate_each(alloc: Global, migration: &Migration, records: Fields) -> Me
     // That the ids rise is told by the length.
     let _ = records.len();
     let mut after = Fields::new(alloc);
-    'records: for (id, record_) in records.into_vec()? {
-        put_raised(alloc, migration, id, record_, &mut after)?;
+    'records: for (id, stored) in records.into_vec()? {
+        put_raised(alloc, migration, id, stored, &mut after)?;
     }
     Ok(after)
 }
@@ -105,34 +105,34 @@ fn put_raised(
     alloc: Global,
     migration: &Migration,
     id: Text,
-    record_: Val,
+    stored: Val,
     records: &mut Fields,
 ) -> Mem<()>
     requires { IsTrue (list_all can_scale migration.now.steps.items) }
     ensures { OnOk result (records.new
-        ≡ with_key records.old id (migrated Way.Up migration.now (data_of record_))) }
+        ≡ with_key records.old id (migrated Way.Up migration.now (data_of stored))) }
 {
-    let raised = migrate(alloc, migration, Way::Up, record_)?;
+    let raised = migrate(alloc, migration, Way::Up, stored)?;
     records.put(id, raised)?;
     Ok(())
 }
 
-fn raise(alloc: Global, steps: &[MigStep], record_: Val) -> Mem<Val>
+fn raise(alloc: Global, steps: &[MigStep], stored: Val) -> Mem<Val>
     requires { IsTrue (list_all can_scale steps.now) }
-    ensures { IfOk result (λ v. data_of v ≡ raised steps.now (data_of record_)) }
+    ensures { IfOk result (λ v. data_of v ≡ raised steps.now (data_of stored)) }
 {
-    let mut after = record_;
+    let mut after = stored;
     for step in steps {
         after = walk(alloc, after, step.path(), step, Way::Up)?;
     }
     Ok(after)
 }
 
-fn lower(alloc: Global, steps: &[MigStep], record_: Val) -> Mem<Val>
+fn lower(alloc: Global, steps: &[MigStep], stored: Val) -> Mem<Val>
     requires { IsTrue (list_all can_scale steps.now) }
-    ensures { IfOk result (λ v. data_of v ≡ lowered steps.now (data_of record_)) }
+    ensures { IfOk result (λ v. data_of v ≡ lowered steps.now (data_of stored)) }
 {
-    let mut after = record_;
+    let mut after = stored;
     let mut left = steps.len();
     'steps: while 0 < left {
         left -= 1;
@@ -142,23 +142,23 @@ fn lower(alloc: Global, steps: &[MigStep], record_: Val) -> Mem<Val>
     Ok(after)
 }
 
-fn passes(filter: &Filter, record_: &Val) -> bool
-    ensures { result ≡ passes filter.now (data_of record_.now) }
+fn passes(filter: &Filter, stored: &Val) -> bool
+    ensures { result ≡ passes filter.now (data_of stored.now) }
 {
     match filter {
         Filter::All => true,
-        Filter::Type_(name) => has_text(record_, "typeName", name),
+        Filter::Type_(name) => has_text(stored, "typeName", name),
         Filter::Kind(name, kind) => {
-            has_text(record_, "typeName", name) && has_text(record_, "type", kind)
+            has_text(stored, "typeName", name) && has_text(stored, "type", kind)
         }
     }
 }
 
 // Whether a record has a text under a key.
-fn has_text(record_: &Val, key: &str, text: &Text) -> bool
-    ensures { result ≡ has_text text.now (field (data_of record_.now) key.now) }
+fn has_text(stored: &Val, key: &str, text: &Text) -> bool
+    ensures { result ≡ has_text text.now (field (data_of stored.now) key.now) }
 {
-    match record_.get(key) {
+    match stored.get(key) {
         Some(val) => match val {
             Val::Text(found) => found.as_str() == text.as_str(),
             _ => false,

@@ -115,9 +115,9 @@ fn fields_of(alloc: Global, event: &Event) -> Mem<Fields>
             let fields = of_client(alloc, Verb::Edit, *client)?;
             fields.with(alloc, "diff", diff_val(alloc, diff)?)
         }
-        Event::Presence { client, record_ } => {
+        Event::Presence { client, stored } => {
             let fields = of_client(alloc, Verb::Presence, *client)?;
-            fields.with(alloc, "record", record_.copy(alloc)?)
+            fields.with(alloc, "record", stored.copy(alloc)?)
         }
         Event::Mark { client, name } => of_client_and_name(alloc, Verb::Mark, *client, name),
         Event::Undo { client } => of_client(alloc, Verb::Undo, *client),

@@ -212,8 +212,8 @@ fn presence_event(alloc: Global, entries: &[(Text, Val)]) -> Result<Event, LineF
     };
     check_verb(word, Verb::Presence)?;
     let client = number_in(client, "client")?;
-    let record_ = val_in(record, "record")?.copy(alloc)?;
-    Ok(Event::Presence { client, record_ })
+    let stored = val_in(record, "record")?.copy(alloc)?;
+    Ok(Event::Presence { client, stored })
 }
 
 fn watch_event(alloc: Global, entries: &[(Text, Val)]) -> Result<RecordedEvent, LineFault>

@@ -167,22 +167,22 @@ fn unlist(
     keys: &Keys,
     listing: Listing,
     id: &str,
-    record_: &Val,
+    stored: &Val,
 ) -> Mem<()>
     requires records { HasRecords graph.old (records_of keys.now graph.old) }
     requires lists { AreLists listing graph.old (records_of keys.now graph.old) }
-    requires there { value_at (records_of keys.now graph.old) id.now ≡ Some (data_of record_.now) }
+    requires there { value_at (records_of keys.now graph.old) id.now ≡ Some (data_of stored.now) }
     ensures lists { OnOk result
         (AreLists listing graph.new (without_key (records_of keys.now graph.old) id.now)) }
-    ensures left { ChangesOnly (IsListOf listing id.now (Some (data_of record_.now)))
+    ensures left { ChangesOnly (IsListOf listing id.now (Some (data_of stored.now)))
         graph.old graph.new }
 {
-    let Some(owner) = listing.owner(id, record_) else {
+    let Some(owner) = listing.owner(id, stored) else {
         return Ok(());
     };
     let key = listing.key(alloc, owner)?;
     let ids = ids_at(graph, &key)?;
-    let place = place_among(alloc, graph, listing, &ids, listing.index(record_), id)?;
+    let place = place_among(alloc, graph, listing, &ids, listing.index(stored), id)?;
     let rest = without_id(alloc, &ids, place)?;
     set_atom(alloc, graph, key, TlValue::Ids(rest))
 }
@@ -194,23 +194,23 @@ fn enlist(
     keys: &Keys,
     listing: Listing,
     id: &str,
-    record_: &Val,
+    stored: &Val,
 ) -> Mem<()>
     requires records { HasRecords graph.old (records_of keys.now graph.old) }
     requires lists { AreLists listing graph.old
         (without_key (records_of keys.now graph.old) id.now) }
     ensures lists { OnOk result (AreLists listing graph.new
-        (with_key (records_of keys.now graph.old) id.now (data_of record_.now))) }
-    ensures left { ChangesOnly (IsListOf listing id.now (Some (data_of record_.now)))
+        (with_key (records_of keys.now graph.old) id.now (data_of stored.now))) }
+    ensures left { ChangesOnly (IsListOf listing id.now (Some (data_of stored.now)))
         graph.old graph.new }
 {
-    let Some(owner) = listing.owner(id, record_) else {
+    let Some(owner) = listing.owner(id, stored) else {
         return Ok(());
     };
     let key = listing.key(alloc, owner)?;
     let ids = ids_at(graph, &key)?;
-    let place = place_among(alloc, graph, listing, &ids, listing.index(record_), id)?;
-    let more = with_id(alloc, &ids, place, id, listing.index(record_))?;
+    let place = place_among(alloc, graph, listing, &ids, listing.index(stored), id)?;
+    let more = with_id(alloc, &ids, place, id, listing.index(stored))?;
     set_atom(alloc, graph, key, TlValue::Ids(more))
 }
 
@@ -352,10 +352,10 @@ pub(crate) fn write_all(
 }
 
 // That a record is sound is told by its kind.
-fn tell_sound(record_: &Option<Val>)
-    ensures { IsSoundRecord (owned_data record_.now) }
+fn tell_sound(stored: &Option<Val>)
+    ensures { IsSoundRecord (owned_data stored.now) }
 {
-    if let Some(val) = record_ {
+    if let Some(val) = stored {
         let _ = val.kind();
     }
 }

@@ -87,12 +87,12 @@ impl RecordStore {
         &mut self,
         alloc: Global,
         id: &str,
-        record_: Option<Val>,
+        stored: Option<Val>,
         steps: &mut Steps<L>,
     ) -> Mem<Option<Val>>
         ensures old { IfOk result (λ r. maybe_data r ≡ value_at (records self.old) id.now) }
         ensures ok { OnOk result
-            (records self.new ≡ set_at (records self.old) id.now (maybe_data record_)) }
+            (records self.new ≡ set_at (records self.old) id.now (maybe_data stored)) }
         ensures err { OnErr result (records self.new ≡ records self.old) }
         ensures ring { OnErr result (ring self.new ≡ ring self.old) }
         ensures inner { begun self.old ≢ [] → ring self.new ≡ ring self.old }
@@ -100,10 +100,10 @@ impl RecordStore {
         ensures watches { watches self.new ≡ watches self.old }
         ensures epoch { epoch self.old ≤ epoch self.new }
         ensures apart { OnOk result (KeepsApart
-            (IsWritten id.now (value_at (records self.old) id.now) (maybe_data record_))
+            (IsWritten id.now (value_at (records self.old) id.now) (maybe_data stored))
             self.old self.new) }
         ensures joins { OnOk result (JoinsOnly
-            (IsWritten id.now (value_at (records self.old) id.now) (maybe_data record_))
+            (IsWritten id.now (value_at (records self.old) id.now) (maybe_data stored))
             self.old self.new) }
         ensures told { begun self.old ≡ [] → OnOk result (TellsOn self.old self.new) }
         ensures ticked { steps.new ≡ steps.old + 1 }
@@ -111,7 +111,7 @@ impl RecordStore {
         steps.tick();
         self.keys.add(alloc, id)?;
         open(alloc, &mut self.graph)?;
-        match write_all(alloc, &mut self.graph, &self.keys, id, record_) {
+        match write_all(alloc, &mut self.graph, &self.keys, id, stored) {
             Ok(before) => {
                 self.graph.commit();
                 tell_epoch(&self.graph);
@@ -309,12 +309,12 @@ impl DocStore for RecordStore {
         &mut self,
         alloc: Global,
         id: &str,
-        record_: Option<Val>,
+        stored: Option<Val>,
         steps: &mut Steps<L>,
     ) -> Mem<Option<Val>>
         ensures old { IfOk result (λ r. maybe_data r ≡ value_at (records self.old) id.now) }
         ensures ok { OnOk result
-            (records self.new ≡ set_at (records self.old) id.now (maybe_data record_)) }
+            (records self.new ≡ set_at (records self.old) id.now (maybe_data stored)) }
         ensures ticked { OnOk result (steps.new ≡ steps.old + 1) }
         ensures untold { OnErr result (steps.new ≤ steps.old + 1) }
         ensures begun { begun self.new ≡ begun self.old }
@@ -324,15 +324,15 @@ impl DocStore for RecordStore {
         ensures inner { begun self.old ≢ [] → ring self.new ≡ ring self.old }
         ensures epoch { epoch self.old ≤ epoch self.new }
         ensures apart { OnOk result (KeepsApart
-            (IsWritten id.now (value_at (records self.old) id.now) (maybe_data record_))
+            (IsWritten id.now (value_at (records self.old) id.now) (maybe_data stored))
             self.old self.new) }
         ensures joins { OnOk result (JoinsOnly
-            (IsWritten id.now (value_at (records self.old) id.now) (maybe_data record_))
+            (IsWritten id.now (value_at (records self.old) id.now) (maybe_data stored))
             self.old self.new) }
         ensures told { begun self.old ≡ [] → OnOk result (TellsOn self.old self.new) }
         ensures counted { steps.new ≡ steps.old + 1 }
     {
-        self.replace(alloc, id, record_, steps)
+        self.replace(alloc, id, stored, steps)
     }
 
     /// Opens a transaction. `TooNested` exactly where 16 are open, or `OutOfMemory`; then none more is open. It copies no

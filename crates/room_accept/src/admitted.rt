@@ -21,16 +21,16 @@ pub(crate) fn step_admitted(
     alloc: Global,
     schema: &Schema,
     id: &str,
-    record_: Option<&Val>,
+    stored: Option<&Val>,
     op: &RecordOp,
 ) -> Mem<Option<Option<Val>>>
-    requires { IsStanding (schema_tree schema.now) id.now (maybe_data (option_copied record_)) }
+    requires { IsStanding (schema_tree schema.now) id.now (maybe_data (option_copied stored)) }
     ensures { IfOk result (λ left. option_map maybe_data left
         ≡ left_on (is_admitted (schema_tree schema.now)) id.now
-        (change_of op.now) (maybe_data (option_copied record_.entry))) }
+        (change_of op.now) (maybe_data (option_copied stored.entry))) }
 {
-    let left = apply_record(alloc, record_, op)?;
-    if acts(schema, id, record_, &left, op) {
+    let left = apply_record(alloc, stored, op)?;
+    if acts(schema, id, stored, &left, op) {
         Ok(Some(left))
     } else {
         Ok(None)
@@ -50,10 +50,10 @@ fn acts(schema: &Schema, id: &str, before: Option<&Val>, left: &Option<Val>, op:
         RecordOp::Put(_) => true,
         RecordOp::Remove => before.is_some(),
         RecordOp::Patch(diff) => match before {
-            Some(record_) => match left {
+            Some(stored) => match left {
                 Some(patched) => {
                     // That the record is sound is told by its kind.
-                    let _ = record_.kind();
+                    let _ = stored.kind();
                     schema.admits_patched(id, patched, diff).is_ok()
                 }
                 None => false,

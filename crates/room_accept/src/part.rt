@@ -172,8 +172,8 @@ fn added(
         mut after,
         size: _,
     } = part;
-    let (record_, size) = left;
+    let (stored, size) = left;
     diff.put(id.copy(alloc)?, op)?;
-    after.push((id.copy(alloc)?, record_))?;
+    after.push((id.copy(alloc)?, stored))?;
     Ok(Part { diff, after, size })
 }

@@ -56,18 +56,18 @@ impl SessionPlan {
     }
 
     /// A record of the client's schema as the room's schema has it.
-    pub fn raise(&self, alloc: Global, schema: &Schema, record_: &Val) -> Mem<Val>
+    pub fn raise(&self, alloc: Global, schema: &Schema, stored: &Val) -> Mem<Val>
         ensures { IfOk result (λ v. data_of v
-            ≡ raise (schema_tree schema.now) (plan_of self.now) (data_of record_.now)) }
+            ≡ raise (schema_tree schema.now) (plan_of self.now) (data_of stored.now)) }
     {
-        schema.sequences().up(alloc, &self.plan, record_)
+        schema.sequences().up(alloc, &self.plan, stored)
     }
 
     /// A record of the room's schema as the client sees it.
-    pub fn lower(&self, alloc: Global, schema: &Schema, record_: &Val) -> Mem<Val>
+    pub fn lower(&self, alloc: Global, schema: &Schema, stored: &Val) -> Mem<Val>
         ensures { IfOk result (λ v. data_of v
-            ≡ lower (schema_tree schema.now) (plan_of self.now) (data_of record_.now)) }
+            ≡ lower (schema_tree schema.now) (plan_of self.now) (data_of stored.now)) }
     {
-        schema.sequences().down(alloc, &self.plan, record_)
+        schema.sequences().down(alloc, &self.plan, stored)
     }
 }

@@ -74,10 +74,10 @@ fn own_op(
 }
 
 // A record with this id, where it is a map.
-fn with_id(alloc: Global, id: &Text, record_: Val) -> Mem<Val>
-    ensures { IfOk result (λ v. data_of v ≡ with_id id.now (data_of record_)) }
+fn with_id(alloc: Global, id: &Text, stored: Val) -> Mem<Val>
+    ensures { IfOk result (λ v. data_of v ≡ with_id id.now (data_of stored)) }
 {
-    match record_ {
+    match stored {
         Val::Map(mut fields) => {
             fields.put(Text::of(alloc, "id")?, Val::Text(id.copy(alloc)?))?;
             Ok(Val::Map(fields))

@@ -15,8 +15,8 @@ pub(crate) fn marks(alloc: Global, left: &[(Text, Option<Val>)]) -> Mem<Vec<(Tex
     ensures { IfOk result (λ marks. marks.items ≡ marks_of (seen maybe_data left.now)) }
 {
     let mut marks = Vec::with_capacity(alloc, left.len())?;
-    'ids: for (id, record_) in left {
-        marks.push((id.copy(alloc)?, record_.is_some()))?;
+    'ids: for (id, stored) in left {
+        marks.push((id.copy(alloc)?, stored.is_some()))?;
     }
     Ok(marks)
 }

@@ -64,9 +64,9 @@ fn write_each<L: Ledger>(
     ensures begun { records.new.1 ≡ records.old.1 }
     ensures ticks { steps.new ≤ steps.old + length left.now }
 {
-    'ids: for (id, record_) in left {
-        let record_ = Val::copy_slot(alloc, record_)?;
-        drop(records.write(alloc, id.as_str(), record_, steps)?);
+    'ids: for (id, stored) in left {
+        let stored = Val::copy_slot(alloc, stored)?;
+        drop(records.write(alloc, id.as_str(), stored, steps)?);
     }
     Ok(())
 }

@@ -79,7 +79,7 @@ impl Joiner {
     {
         match act {
             Act::Edit(diff) => self.edit(alloc, &diff, steps),
-            Act::Presence(record_) => self.presence(alloc, record_),
+            Act::Presence(stored) => self.presence(alloc, stored),
             Act::Mark(name) => self.mark(alloc, name),
             Act::Undo => self.undo(alloc, steps),
             Act::Redo => self.redo(alloc, steps),
@@ -103,12 +103,12 @@ impl Joiner {
     }
 
     // It sets the record by which others see it.
-    fn presence(&mut self, alloc: Global, record_: Val) -> Mem<Answer>
+    fn presence(&mut self, alloc: Global, stored: Val) -> Mem<Answer>
         ensures { IfOk result (λ answer. (schemas : WorldSchemas EditFault)
             (joiner : model.Joiner) → Stands schemas joiner self.old
-            → Answers schemas (on_presence schemas (data_of record_) joiner) answer self.new) }
+            → Answers schemas (on_presence schemas (data_of stored) joiner) answer self.new) }
     {
-        match self.peer.presence(alloc, record_) {
+        match self.peer.presence(alloc, stored) {
             Ok(()) => Ok(Ok(Vec::new(alloc))),
             Err(fault) => Ok(Err(edit_fault_text(alloc, &edit_fault(fault))?)),
         }

@@ -30,7 +30,7 @@ pub enum Event {
     /// A client sets the record by which others see it.
     Presence {
         client: u64,
-        record_: Val,
+        stored: Val,
     },
     /// A client makes a mark, to which it may go back.
     Mark {

@@ -56,21 +56,21 @@ impl Schema {
 
     /// The scope of a record that is admitted under an id, or the first of the causes of `RecordFault` that applies. The
     /// call takes no memory, and costs a fixed number of passes over the record.
-    pub fn admits(&self, id: &str, record_: &Val) -> Result<Scope, RecordFault>
-        ensures answer { result ≡ admission (schema_tree self.now) id.now (data_of record_.now) }
+    pub fn admits(&self, id: &str, stored: &Val) -> Result<Scope, RecordFault>
+        ensures answer { result ≡ admission (schema_tree self.now) id.now (data_of stored.now) }
         ensures admitted { IsOk result
-            ↔ IsAdmitted (schema_tree self.now) id.now (data_of record_.now) }
+            ↔ IsAdmitted (schema_tree self.now) id.now (data_of stored.now) }
     {
-        let Some(name) = own_type(id, record_) else {
+        let Some(name) = own_type(id, stored) else {
             return Err(RecordFault::BadId);
         };
         let Some(found) = self.type_named(name) else {
             return Err(RecordFault::UnknownType);
         };
-        if let Err(reject) = check(&found.check, record_) {
+        if let Err(reject) = check(&found.check, stored) {
             return Err(RecordFault::Rejected(reject));
         }
-        if record_.weight() > GREATEST_WEIGHT {
+        if stored.weight() > GREATEST_WEIGHT {
             return Err(RecordFault::TooHeavy);
         }
         Ok(found.scope)
@@ -152,11 +152,11 @@ impl Schema {
 }
 
 // The name that the id begins with, where the record has the id and that name as its own.
-fn own_type<'a>(id: &'a str, record_: &Val) -> Option<&'a str>
-    ensures { option_map (λ name. name.now) result ≡ own_type id.now (data_of record_.now) }
+fn own_type<'a>(id: &'a str, stored: &Val) -> Option<&'a str>
+    ensures { option_map (λ name. name.now) result ≡ own_type id.now (data_of stored.now) }
 {
     let name = id_type(id)?;
-    if has_text(record_, "id", id) && has_text(record_, "typeName", name) {
+    if has_text(stored, "id", id) && has_text(stored, "typeName", name) {
         Some(name)
     } else {
         None
@@ -164,10 +164,10 @@ fn own_type<'a>(id: &'a str, record_: &Val) -> Option<&'a str>
 }
 
 // Whether the record has the text under the key.
-fn has_text(record_: &Val, key: &str, text: &str) -> bool
-    ensures { result ≡ has_text text.now (field (data_of record_.now) key.now) }
+fn has_text(stored: &Val, key: &str, text: &str) -> bool
+    ensures { result ≡ has_text text.now (field (data_of stored.now) key.now) }
 {
-    match record_.get(key) {
+    match stored.get(key) {
         Some(val) => match val {
             Val::Text(found) => found.as_str() == text,
             _ => false,

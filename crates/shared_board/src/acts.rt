@@ -126,7 +126,7 @@ impl Board {
     {
         self.act(Event::Presence {
             client: client.number,
-            record_: presence,
+            stored: presence,
         })
     }
 

@@ -134,11 +134,11 @@ pub(crate) fn parent_after<D: DocStore>(
 }
 
 // The text under a key of a record, if there is one.
-fn text_of(alloc: Global, record_: Option<&Val>, key: &str) -> Mem<Option<Text>>
+fn text_of(alloc: Global, stored: Option<&Val>, key: &str) -> Mem<Option<Text>>
     ensures { IfOk result (λ t. t
-        ≡ option_map (λ d. text_or_empty d key.now) (maybe_data record_.entry)) }
+        ≡ option_map (λ d. text_or_empty d key.now) (maybe_data stored.entry)) }
 {
-    match record_ {
+    match stored {
         Some(val) => Ok(Some(Text::of(alloc, text_or_empty(val, key))?)),
         None => Ok(None),
     }

@@ -39,20 +39,20 @@ pub(crate) fn is_binding(id: &str) -> bool
 }
 
 // The text under a key, and the empty text if there is none.
-pub(crate) fn text_or_empty<'a>(record_: &'a Val, key: &str) -> &'a str
-    ensures { result.now ≡ text_or_empty (data_of record_.now) key.now }
+pub(crate) fn text_or_empty<'a>(stored: &'a Val, key: &str) -> &'a str
+    ensures { result.now ≡ text_or_empty (data_of stored.now) key.now }
 {
-    match record_.get(key) {
+    match stored.get(key) {
         Some(found) => found.as_text().unwrap_or(""),
         None => "",
     }
 }
 
 // Whether the record is a map without the key `index`.
-pub(crate) fn lacks_index(record_: &Val) -> bool
-    ensures { result ≡ lacks_index (data_of record_.now) }
+pub(crate) fn lacks_index(stored: &Val) -> bool
+    ensures { result ≡ lacks_index (data_of stored.now) }
 {
-    match record_.as_map() {
+    match stored.as_map() {
         Some(fields) => fields.get("index").is_none(),
         None => false,
     }

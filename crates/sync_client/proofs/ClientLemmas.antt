@@ -332,14 +332,14 @@ module _ {D : Type 0} where
   }
 
   -- set on a connection it is pending
-  pub own_open : (records : D → Pairs) (held : Held) (c : SyncClient D) (r : code.Replica D) (record_ : Val) → Stands records held c → is_open held.client.connection ≡ true
-      → replica.Stands records (replica.with_work (presence (data_of record_)) (replica_of held)) r
-      → Stands records (record held { client = with_presence (data_of record_) held.client }) (record c { replica = r; presence = Some record_ })
-  own_open records held c r record_ stands joined next =
-      let set = record held.client { presence = Some (data_of record_) } in
-      subst (λ client. Stands records (record held { client = client }) (record c { replica = r; presence = Some record_ })) (sym (ap (λ b. cond b (model.with_work (presence (data_of record_)) set) set) joined))
-      (with_own records (record held { client = model.with_work (presence (data_of record_)) held.client }) (record c { replica = r }) (Some record_) (data_of record_)
-      (after_work records held c r (presence (data_of record_)) stands next (λ shut. absurd (opposite (sym joined ∙ shut)))) refl)
+  pub own_open : (records : D → Pairs) (held : Held) (c : SyncClient D) (r : code.Replica D) (stored : Val) → Stands records held c → is_open held.client.connection ≡ true
+      → replica.Stands records (replica.with_work (presence (data_of stored)) (replica_of held)) r
+      → Stands records (record held { client = with_presence (data_of stored) held.client }) (record c { replica = r; presence = Some stored })
+  own_open records held c r stored stands joined next =
+      let set = record held.client { presence = Some (data_of stored) } in
+      subst (λ client. Stands records (record held { client = client }) (record c { replica = r; presence = Some stored })) (sym (ap (λ b. cond b (model.with_work (presence (data_of stored)) set) set) joined))
+      (with_own records (record held { client = model.with_work (presence (data_of stored)) held.client }) (record c { replica = r }) (Some stored) (data_of stored)
+      (after_work records held c r (presence (data_of stored)) stands next (λ shut. absurd (opposite (sym joined ∙ shut)))) refl)
 
 -- what a client sends that asks
 pub answer_is : (client : Client) (reached : ℤ) (request : ℕ) (versions : Versions) → client.reached ≡ reached → asks versions request client ≡ said.Connect (decimal request) reached PROTOCOL versions

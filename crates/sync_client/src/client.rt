@@ -126,28 +126,28 @@ impl<D: DocStore> SyncClient<D> {
     /// # Errors
     /// `WrongScope` exactly where the record's id, which is given, isn't one of a presence; else `Invalid` exactly where the
     /// record isn't admitted under it, with the cause; or `OutOfMemory`. Then the client is as before.
-    pub fn presence(&mut self, alloc: Global, record_: Val) -> Result<(), PresenceFault>
+    pub fn presence(&mut self, alloc: Global, stored: Val) -> Result<(), PresenceFault>
         ensures fault { Gives presence_fault_is.OutOfMemory (λ done. done) result (option_map_or
             (λ fault. Err fault) (presence_fault (schema_tree self.old.replica.schema)
-            (data_of record_)) (Ok tt)) }
+            (data_of stored)) (Ok tt)) }
         ensures ok { OnOk result ((held : Held) → Stands D.records held self.old
             → Stands D.records (record held {
               client = with_presence
-                  (data_of record_) held.client;
+                  (data_of stored) held.client;
             }) self.new) }
         ensures err { OnErr result ((held : Held) → Stands D.records held self.old
             → Stands D.records held self.new) }
         ensures schema { self.new.replica.schema ≡ self.old.replica.schema }
         ensures store { self.new.replica.store ≡ self.old.replica.store }
     {
-        check_presence(alloc, self.replica.schema(), &record_)?;
+        check_presence(alloc, self.replica.schema(), &stored)?;
         if !self.is_open() {
-            self.presence = Some(record_);
+            self.presence = Some(stored);
             return Ok(());
         }
-        let copy = record_.copy(alloc)?;
+        let copy = stored.copy(alloc)?;
         self.replica.show(copy)?;
-        self.presence = Some(record_);
+        self.presence = Some(stored);
         Ok(())
     }
 
@@ -501,10 +501,10 @@ fn push_of(alloc: Global, number: u64, work: &Work) -> Mem<ClientMessage>
             diff: Some(diff.copy(alloc)?),
             presence: None,
         }),
-        Work::Presence(record_) => Ok(ClientMessage::Push {
+        Work::Presence(stored) => Ok(ClientMessage::Push {
             client_clock: number as i64,
             diff: None,
-            presence: Some(RecordOp::Put(record_.copy(alloc)?)),
+            presence: Some(RecordOp::Put(stored.copy(alloc)?)),
         }),
     }
 }

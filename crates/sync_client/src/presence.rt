@@ -16,15 +16,15 @@ use std::alloc::Global;
 pub(crate) fn check_presence(
     alloc: Global,
     schema: &Schema,
-    record_: &Val,
+    stored: &Val,
 ) -> Result<(), PresenceFault>
     ensures { Gives fault_is.OutOfMemory (λ done. done) result (option_map_or
-        (λ fault. Err fault) (presence_fault (schema_tree schema.now) (data_of record_.now))
+        (λ fault. Err fault) (presence_fault (schema_tree schema.now) (data_of stored.now))
         (Ok tt)) }
 {
-    let id = id_of(record_);
+    let id = id_of(stored);
     match schema.scope_of(id) {
-        Some(Scope::Presence) => match schema.admits(id, record_) {
+        Some(Scope::Presence) => match schema.admits(id, stored) {
             Ok(_) => Ok(()),
             Err(fault) => Err(PresenceFault::Invalid(Text::of(alloc, id)?, fault)),
         },
@@ -35,10 +35,10 @@ pub(crate) fn check_presence(
 }
 
 // The id that a record says it has, and `-`, which is no id, if it says none.
-fn id_of(record_: &Val) -> &str
-    ensures { result.now ≡ id_of (data_of record_.now) }
+fn id_of(stored: &Val) -> &str
+    ensures { result.now ≡ id_of (data_of stored.now) }
 {
-    match record_.get("id") {
+    match stored.get("id") {
         Some(val) => match val.as_text() {
             Some(id) => id,
             None => "-",

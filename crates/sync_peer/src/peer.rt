@@ -200,20 +200,20 @@ impl Peer {
     /// # Errors
     /// `WrongScope` exactly where the record's id, which is given, isn't one of a presence; else `Invalid` exactly where the
     /// record isn't admitted under it, with the cause; or `OutOfMemory`. Then the peer is as before.
-    pub fn presence(&mut self, alloc: Global, record_: Val) -> Result<(), PresenceFault>
+    pub fn presence(&mut self, alloc: Global, stored: Val) -> Result<(), PresenceFault>
         ensures fault { (schemas : WorldSchemas EditFault) (held : Held)
             → Stands schemas held self.old
             → Gives edit_fault.OutOfMemory
-            (λ done. done) (as_edit result) (done_unless (refusal schemas held (data_of record_))) }
+            (λ done. done) (as_edit result) (done_unless (refusal schemas held (data_of stored))) }
         ensures ok { OnOk result ((schemas : WorldSchemas EditFault) (held : Held)
             → Stands schemas held self.old → Stands schemas (record held {
-              client = with_presence (data_of record_) held.client;
+              client = with_presence (data_of stored) held.client;
             }) self.new) }
         ensures err { OnErr result ((schemas : WorldSchemas EditFault) (held : Held)
             → Stands schemas held self.old → Stands schemas held self.new) }
         ensures store { store_of self.new ≡ store_of self.old }
     {
-        self.client.presence(alloc, record_)
+        self.client.presence(alloc, stored)
     }
 
     /// Asks to be connected by a request, whose number the room's answer will name. What is returned is to be sent.

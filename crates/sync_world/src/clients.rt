@@ -76,18 +76,18 @@ impl Live {
     }
 
     // A client sets the record by which others see it.
-    pub(crate) fn presence(&mut self, alloc: Global, number: u64, record_: Val) -> Mem<Answer>
+    pub(crate) fn presence(&mut self, alloc: Global, number: u64, stored: Val) -> Mem<Answer>
         ensures step { IfOk result (λ answer. (schemas : WorldSchemas EditFault)
             (world : model.World)
             → Keeps schemas world self.old
-            → Answers schemas world (on_presence schemas number (data_of record_) world) answer
+            → Answers schemas world (on_presence schemas number (data_of stored) world) answer
             self.new) }
         ensures stores { OnOk result (stores_in self.new ≡ stores_in self.old) }
     {
         let Some(at) = self.place(number) else {
             return Ok(Err(StepFault::NoSuchClient));
         };
-        match self.clients[at].peer.presence(alloc, record_) {
+        match self.clients[at].peer.presence(alloc, stored) {
             Ok(()) => {
                 self.push(alloc, at)?;
                 Ok(Ok(Vec::new(alloc)))

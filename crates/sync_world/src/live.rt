@@ -71,7 +71,7 @@ impl Live {
             Event::Client { version } => self.join(alloc, version),
             Event::Connect { client, readonly } => self.connect(alloc, client, readonly),
             Event::Edit { client, diff } => self.edit(alloc, client, &diff, steps),
-            Event::Presence { client, record_ } => self.presence(alloc, client, record_),
+            Event::Presence { client, stored } => self.presence(alloc, client, stored),
             Event::Mark { client, name } => self.mark(alloc, client, name),
             Event::Undo { client } => self.undo(alloc, client, steps),
             Event::Redo { client } => self.redo(alloc, client, steps),

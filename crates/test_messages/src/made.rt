@@ -198,8 +198,8 @@ fn admitted(alloc: Global, version: u32, events: &[Event]) -> Result<u32, Fail> 
 fn admitted_of(schema: &Schema, event: &Event) -> Result<u32, Fail> {
     match event {
         Event::Edit { diff, .. } => admitted_in(schema, diff),
-        Event::Presence { record_, .. } => {
-            schema.admits("instance_presence:me", record_)?;
+        Event::Presence { stored, .. } => {
+            schema.admits("instance_presence:me", stored)?;
             Ok(1)
         }
         _ => Ok(0),

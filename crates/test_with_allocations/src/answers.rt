@@ -37,7 +37,7 @@ impl Answer {
             Answer::Number(number) => Ok(format!(in alloc; "{number}")?),
             Answer::Back(diff) => printed(alloc, &diff_val(alloc, diff)?),
             Answer::Said(message) => said(alloc, message),
-            Answer::Before(record_) => maybe_text(alloc, record_.as_ref()),
+            Answer::Before(stored) => maybe_text(alloc, stored.as_ref()),
             Answer::Found(value) => value_text(alloc, value),
             Answer::Told(told) => told_text(alloc, told),
             Answer::Due(due) => due_text(alloc, due),
@@ -120,8 +120,8 @@ fn work(alloc: Global, diff: Option<&Diff>, presence: Option<&RecordOp>) -> Resu
 }
 
 /// A record, if there is one.
-fn maybe_text(alloc: Global, record_: Option<&Val>) -> Result<String, Fail> {
-    match record_ {
+fn maybe_text(alloc: Global, stored: Option<&Val>) -> Result<String, Fail> {
+    match stored {
         Some(val) => printed(alloc, val),
         None => Ok(String::from_str(alloc, "none")?),
     }
@@ -130,7 +130,7 @@ fn maybe_text(alloc: Global, record_: Option<&Val>) -> Result<String, Fail> {
 /// What a key comes to.
 fn value_text(alloc: Global, value: &TlValue) -> Result<String, Fail> {
     match value {
-        TlValue::Rec(record_) => maybe_text(alloc, record_.as_ref()),
+        TlValue::Rec(stored) => maybe_text(alloc, stored.as_ref()),
         TlValue::Ids(_) => ids_text(alloc, value),
         TlValue::Number(number) => Ok(format!(in alloc; "{number}")?),
         TlValue::Rect(rect) => box_text(alloc, *rect),

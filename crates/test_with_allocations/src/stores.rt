@@ -73,9 +73,9 @@ pub(crate) fn call_store<D: DocStore>(
     call: &Call,
 ) -> Mem<Answer> {
     match call {
-        Call::Write(id, record_) => {
-            let record_ = Val::copy_slot(alloc, record_)?;
-            Ok(Answer::Before(write(alloc, store, id, record_)?))
+        Call::Write(id, stored) => {
+            let stored = Val::copy_slot(alloc, stored)?;
+            Ok(Answer::Before(write(alloc, store, id, stored)?))
         }
         Call::Apply(diff) => applied(apply_all(alloc, store, schema, diff)),
         _ => Ok(Answer::Word("no call of a store")),
@@ -87,14 +87,14 @@ fn write_in<D: DocStore, L: Ledger>(
     alloc: Global,
     store: &mut D,
     id: &Text,
-    record_: Option<Val>,
+    stored: Option<Val>,
 ) -> Mem<Option<Val>>
     requires name { blank.name ≡ L.name }
     requires parts { blank.parts ≡ L.parts }
     requires some { 0 < blank.parts }
 {
     let mut steps = Steps::<L>::new(blank);
-    store.write(alloc, id.as_str(), record_, &mut steps)
+    store.write(alloc, id.as_str(), stored, &mut steps)
 }
 
 /// Sets the record of an id, or takes it away. The steps are counted for nobody.
@@ -102,9 +102,9 @@ fn write<D: DocStore>(
     alloc: Global,
     store: &mut D,
     id: &Text,
-    record_: Option<Val>,
+    stored: Option<Val>,
 ) -> Mem<Option<Val>> {
-    write_in::<D, Brand>(Blank::new(1), alloc, store, id, record_)
+    write_in::<D, Brand>(Blank::new(1), alloc, store, id, stored)
 }
 
 fn apply_in<D: DocStore, L: Ledger>(

@@ -57,11 +57,11 @@ impl DocStore for CountingStore {
         &mut self,
         alloc: Global,
         id: &str,
-        record_: Option<Val>,
+        stored: Option<Val>,
         steps: &mut Steps<L>,
     ) -> Mem<Option<Val>> {
         self.writes = self.writes.saturating_add(1);
-        self.inner.write(alloc, id, record_, steps)
+        self.inner.write(alloc, id, stored, steps)
     }
 
     fn begin(&mut self) -> Result<(), TxnFault> {

@@ -15,7 +15,7 @@ fn write_in<D: DocStore, L: Ledger>(
     alloc: Global,
     store: &mut D,
     id: &Text,
-    record_: Option<Val>,
+    stored: Option<Val>,
 ) -> Mem<()>
     requires name { blank.name ≡ L.name }
     requires parts { blank.parts ≡ L.parts }
@@ -23,15 +23,15 @@ fn write_in<D: DocStore, L: Ledger>(
     ensures { D.begun store.new ≡ D.begun store.old }
 {
     let mut steps = Steps::<L>::new(blank);
-    drop(store.write(alloc, id.as_str(), record_, &mut steps)?);
+    drop(store.write(alloc, id.as_str(), stored, &mut steps)?);
     Ok(())
 }
 
 // Sets the record of an id, or takes it away. The steps are counted for nobody.
-fn write<D: DocStore>(alloc: Global, store: &mut D, id: &Text, record_: Option<Val>) -> Mem<()>
+fn write<D: DocStore>(alloc: Global, store: &mut D, id: &Text, stored: Option<Val>) -> Mem<()>
     ensures { D.begun store.new ≡ D.begun store.old }
 {
-    write_in::<D, Brand>(Blank::new(1), alloc, store, id, record_)
+    write_in::<D, Brand>(Blank::new(1), alloc, store, id, stored)
 }
 
 // Sets a field of the record of an id, where there is one.

@@ -102,7 +102,7 @@ module _ (schemas : WorldSchemas EditFault) where
       after_join viewed made.world old new keeps stands (joins_one (nat_le MOST_CLIENTS (length viewed.world.clients)) version viewed.world made is) stores
   event_leaves (event.Connect client readonly) trace viewed made old new keeps is stands stores = after_same viewed made.world old new keeps stands stores
   event_leaves (event.Edit client diff) trace viewed made old new keeps is stands stores = after_one viewed made.world old new keeps stands client stores
-  event_leaves (event.Presence client record_) trace viewed made old new keeps is stands stores = after_same viewed made.world old new keeps stands stores
+  event_leaves (event.Presence client stored) trace viewed made old new keeps is stands stores = after_same viewed made.world old new keeps stands stores
   event_leaves (event.Mark client name) trace viewed made old new keeps is stands stores = after_same viewed made.world old new keeps stands stores
   event_leaves (event.Undo client) trace viewed made old new keeps is stands stores = after_one viewed made.world old new keeps stands client stores
   event_leaves (event.Redo client) trace viewed made old new keeps is stands stores = after_one viewed made.world old new keeps stands client stores

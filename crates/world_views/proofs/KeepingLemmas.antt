@@ -59,7 +59,7 @@ pub alike_after : (e : Event) (old new : List Seen) → length new ≡ length ol
 alike_after (event.Client version) old new long keeps = may_join old new long keeps
 alike_after (event.Connect client readonly) old new long keeps = unchanged old new keeps
 alike_after (event.Edit client diff) old new long keeps = one_changed client old new keeps
-alike_after (event.Presence client record_) old new long keeps = unchanged old new keeps
+alike_after (event.Presence client stored) old new long keeps = unchanged old new keeps
 alike_after (event.Mark client name) old new long keeps = unchanged old new keeps
 alike_after (event.Undo client) old new long keeps = one_changed client old new keeps
 alike_after (event.Redo client) old new long keeps = one_changed client old new keeps

@@ -14,7 +14,7 @@ use Rattle.client_replica.proofs.replay.replay_at.Goals as goal
 pub works-init : goal.works-init
 works-init c = λ m n before now.
     let admits = is_admitted (schema_tree c.args.schema.now) in
-    replay_same admits (diffs_in (map work_of (drop c.args.from c.args.works.now.items))) n m c.args.id.now (now ∙ c.in_ok-record_.ensures ∙ sym before)
+    replay_same admits (diffs_in (map work_of (drop c.args.from c.args.works.now.items))) n m c.args.id.now (now ∙ c.in_ok-stored.ensures ∙ sym before)
 
 pub works-preserved : goal.works-preserved
 works-preserved c = λ m n before now.
@@ -24,9 +24,9 @@ works-preserved c = λ m n before now.
     let w = work_of c.in-Some.work.now in
     let left = map work_of (drop (c.works.place + 1) items) in
     let parts = ap (map work_of) (one_off_at items c.works.place c.in-Some.work.now c.in-Some.ensures) in
-    let alone = set_at [] id (maybe_data c.works.record_) in
-    let here = alone_at id (maybe_data c.works.record_) in
-    replay_same admits (diffs_in left) n (replay admits alone (diffs_in (w ∷ []))) id (now ∙ sym (c.in_ok-record_-2.ensures alone here))
+    let alone = set_at [] id (maybe_data c.works.stored) in
+    let here = alone_at id (maybe_data c.works.stored) in
+    replay_same admits (diffs_in left) n (replay admits alone (diffs_in (w ∷ []))) id (now ∙ sym (c.in_ok-stored-2.ensures alone here))
     ∙ sym (ap (λ d. value_at d id) (replay-first admits alone w left)) ∙ sym (ap (λ ws. value_at (replay admits alone (diffs_in ws)) id) parts)
     ∙ c.works.invariant m alone before here
 
@@ -42,6 +42,6 @@ pub returns : goal.returns
 returns c = λ m before.
     let admits = is_admitted (schema_tree c.args.schema.now) in
     let id = c.args.id.now in
-    let alone = set_at [] id (maybe_data c.works.record_) in
-    let here = alone_at id (maybe_data c.works.record_) in
+    let alone = set_at [] id (maybe_data c.works.stored) in
+    let here = alone_at id (maybe_data c.works.stored) in
     sym (c.works.invariant m alone before here) ∙ ap (λ l. value_at (replay admits alone (diffs_in (map work_of l))) id) (none_left c.args.works.now.items c.works.place c.in_default.ensures) ∙ here

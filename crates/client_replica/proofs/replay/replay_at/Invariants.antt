@@ -12,7 +12,7 @@ use Rattle.client_replica.proofs.replay.replay_at.Given as goal
 abbrev pub invariant-works : goal.invariant-works
 invariant-works l =
     let admits = is_admitted (schema_tree l.fn.schema) in
-    (m n : Pairs) → value_at m l.fn.id ≡ maybe_data l.fn.slot → value_at n l.fn.id ≡ maybe_data l.record_
+    (m n : Pairs) → value_at m l.fn.id ≡ maybe_data l.fn.slot → value_at n l.fn.id ≡ maybe_data l.stored
     → value_at (replay admits n (diffs_in (map work_of (drop l.place l.fn.works.items)))) l.fn.id ≡ value_at (replay admits m (diffs_in (map work_of (drop l.fn.from l.fn.works.items)))) l.fn.id
 
 abbrev pub decreases-works : goal.decreases-works

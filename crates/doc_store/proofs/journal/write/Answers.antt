@@ -24,23 +24,23 @@ returns-clause-old c =
 
 pub returns-clause-ok : goal.returns-clause-ok
 returns-clause-ok c =
-    ap present c.in_ok-old.ensures.ok ∙ present-with_key c.args.slots.now _ (maybe_data c.args.record_) ∙ ap (λ k. set_at (present c.args.slots.now) k (maybe_data c.args.record_)) c.in_ok-key.ensures.ok
+    ap present c.in_ok-old.ensures.ok ∙ present-with_key c.args.slots.now _ (maybe_data c.args.stored) ∙ ap (λ k. set_at (present c.args.slots.now) k (maybe_data c.args.stored)) c.in_ok-key.ensures.ok
 
 pub returns-clause-undoable : goal.returns-clause-undoable
 returns-clause-undoable c =
     let notes = noted c.args.journal.now.items _ _ _ c.in_ok-push.ensures.items (λ i. wrote (c.in_ok-from_str.ensures.ok i) (c.in_ok-before.ensures.found i)) in
-    let left : c.put.new.self ≡ with_key c.args.slots.now c.args.id.now (maybe_data c.args.record_) =
-    c.in_ok-old.ensures.ok ∙ ap (λ k. with_key c.args.slots.now k (maybe_data c.args.record_)) c.in_ok-key.ensures.ok in
+    let left : c.put.new.self ≡ with_key c.args.slots.now c.args.id.now (maybe_data c.args.stored) =
+    c.in_ok-old.ensures.ok ∙ ap (λ k. with_key c.args.slots.now k (maybe_data c.args.stored)) c.in_ok-key.ensures.ok in
     subst (λ s. IsUndoable (notes_of c.push.new.self.items) s) (sym left)
-    (subst (λ ns. IsUndoable ns (with_key c.args.slots.now c.args.id.now (maybe_data c.args.record_))) (sym notes)
-    (undoable-write (notes_of c.args.journal.now.items) c.args.slots.now c.args.id.now c.in_ok-before.ensures.sound.rising (maybe_data c.args.record_) c.requires))
+    (subst (λ ns. IsUndoable ns (with_key c.args.slots.now c.args.id.now (maybe_data c.args.stored))) (sym notes)
+    (undoable-write (notes_of c.args.journal.now.items) c.args.slots.now c.args.id.now c.in_ok-before.ensures.sound.rising (maybe_data c.args.stored) c.requires))
 
 pub returns-clause-begun : goal.returns-clause-begun
 returns-clause-begun c =
     let notes = noted c.args.journal.now.items _ _ _ c.in_ok-push.ensures.items (λ i. wrote (c.in_ok-from_str.ensures.ok i) (c.in_ok-before.ensures.found i)) in
-    let left : c.put.new.self ≡ with_key c.args.slots.now c.args.id.now (maybe_data c.args.record_) =
-    c.in_ok-old.ensures.ok ∙ ap (λ k. with_key c.args.slots.now k (maybe_data c.args.record_)) c.in_ok-key.ensures.ok in
-    (λ i. begun (notes i) (left i)) ∙ begun-write (notes_of c.args.journal.now.items) c.args.slots.now c.args.id.now c.in_ok-before.ensures.sound.rising (maybe_data c.args.record_)
+    let left : c.put.new.self ≡ with_key c.args.slots.now c.args.id.now (maybe_data c.args.stored) =
+    c.in_ok-old.ensures.ok ∙ ap (λ k. with_key c.args.slots.now k (maybe_data c.args.stored)) c.in_ok-key.ensures.ok in
+    (λ i. begun (notes i) (left i)) ∙ begun-write (notes_of c.args.journal.now.items) c.args.slots.now c.args.id.now c.in_ok-before.ensures.sound.rising (maybe_data c.args.stored)
 
 pub returns-in_err-old-clause-before : goal.returns-in_err-old-clause-before
 returns-in_err-old-clause-before c =
@@ -50,6 +50,6 @@ returns-in_err-old-clause-before c =
 pub returns-clause-before : goal.returns-clause-before
 returns-clause-before c =
     let notes = noted c.args.journal.now.items _ _ _ c.in_ok-push.ensures.items (λ i. wrote (c.in_ok-from_str.ensures.ok i) (c.in_ok-before.ensures.found i)) in
-    let left : c.put.new.self ≡ with_key c.args.slots.now c.args.id.now (maybe_data c.args.record_) =
-    c.in_ok-old.ensures.ok ∙ ap (λ k. with_key c.args.slots.now k (maybe_data c.args.record_)) c.in_ok-key.ensures.ok in
-    (λ i. slots_before (notes i) (left i)) ∙ before-write (notes_of c.args.journal.now.items) c.args.slots.now c.args.id.now c.in_ok-before.ensures.sound.rising (maybe_data c.args.record_)
+    let left : c.put.new.self ≡ with_key c.args.slots.now c.args.id.now (maybe_data c.args.stored) =
+    c.in_ok-old.ensures.ok ∙ ap (λ k. with_key c.args.slots.now k (maybe_data c.args.stored)) c.in_ok-key.ensures.ok in
+    (λ i. slots_before (notes i) (left i)) ∙ before-write (notes_of c.args.journal.now.items) c.args.slots.now c.args.id.now c.in_ok-before.ensures.sound.rising (maybe_data c.args.stored)

@@ -14,7 +14,7 @@ use Rattle.record_store.proofs.lists.enlist.Goals as goal
 pub returns-in_default-clause-lists : goal.returns-in_default-clause-lists
 returns-in_default-clause-lists c =
     let m = records_of c.args.keys.now c.args.graph.now in
-    enlisted_nowhere c.args.listing m c.args.id.now (data_of c.args.record_.now) (rising-records c.args.keys.now (atoms_of c.args.graph.now)) c.args.graph.now c.requires.lists (sym c.in_default.ensures)
+    enlisted_nowhere c.args.listing m c.args.id.now (data_of c.args.stored.now) (rising-records c.args.keys.now (atoms_of c.args.graph.now)) c.args.graph.now c.requires.lists (sym c.in_default.ensures)
 
 pub with_id-requires : goal.with_id-requires
 with_id-requires c = c.in_ok-place.ensures.bound
@@ -24,7 +24,7 @@ returns-clause-lists c =
     let l = c.args.listing in
     let m = records_of c.args.keys.now c.args.graph.now in
     let id = c.args.id.now in
-    let d = data_of c.args.record_.now in
+    let d = data_of c.args.stored.now in
     let owner = c.in-Some.owner.now in
     let key = c.in_ok-key.key in
     let n = c.in_ok-place.place in

@@ -12,7 +12,7 @@ use Rattle.record_store.proofs.lists.unlist.Goals as goal
 
 pub returns-in_default-clause-lists : goal.returns-in_default-clause-lists
 returns-in_default-clause-lists c =
-    unlisted_nowhere c.args.listing (records_of c.args.keys.now c.args.graph.now) c.args.id.now (data_of c.args.record_.now)
+    unlisted_nowhere c.args.listing (records_of c.args.keys.now c.args.graph.now) c.args.id.now (data_of c.args.stored.now)
     (rising-records c.args.keys.now (atoms_of c.args.graph.now)) c.args.graph.now c.requires.lists c.requires.there (sym c.in_default.ensures)
 
 pub without_id-requires : goal.without_id-requires
@@ -20,7 +20,7 @@ without_id-requires c =
     let l = c.args.listing in
     let m = records_of c.args.keys.now c.args.graph.now in
     let id = c.args.id.now in
-    let d = data_of c.args.record_.now in
+    let d = data_of c.args.stored.now in
     let owner = c.in-Some.owner.now in
     let n = c.in_ok-place.place in
     let rising = rising-records c.args.keys.now (atoms_of c.args.graph.now) in
@@ -33,7 +33,7 @@ returns-clause-lists c =
     let l = c.args.listing in
     let m = records_of c.args.keys.now c.args.graph.now in
     let id = c.args.id.now in
-    let d = data_of c.args.record_.now in
+    let d = data_of c.args.stored.now in
     let owner = c.in-Some.owner.now in
     let key = c.in_ok-key.key in
     let n = c.in_ok-place.place in

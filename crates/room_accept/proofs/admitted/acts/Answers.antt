@@ -17,7 +17,7 @@ pub returns-in-Some-left : goal.returns-in-Some-left
 returns-in-Some-left c =
     let s = schema_tree c.args.schema.now in
     let id = c.args.id.now in
-    let d = data_of c.in-Some.record_.now in
+    let d = data_of c.in-Some.stored.now in
     let op : change_of c.args.op.now ≡ patch c.in-Patch.diff = ap change_of c.in-Patch.is in
     let was : maybe_data (option_copied c.args.before) ≡ Some d = ap (λ o. maybe_data (option_copied o)) c.in-Some.is in
     let same = some_same _ _ (ap maybe_data (sym c.in-Some-left.is) ∙ c.requires.left ∙ λ i. raw (op i) (was i)) in

@@ -13,7 +13,7 @@ use Rattle.client_replica.proofs.replica.Replica.show.Goals as goal
 pub returns-clause-ok : goal.returns-clause-ok
 returns-clause-ok g c = λ replica stands.
     let r = c.args.self.now in
-    let d = data_of c.args.record_ in
+    let d = data_of c.args.stored in
     let s = schema_tree r.schema in
     let records = g.D.DocStore.records r.store in
     let works = map work_of r.works.items in

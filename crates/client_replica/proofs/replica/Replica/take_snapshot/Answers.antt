@@ -30,7 +30,7 @@ returns-in-Some-clause-ok g c = λ replica stands.
     let counted = subst (λ ds. AreCounted ds h.names) (sym (diffs-append held (map presence (option_to_list own)) ∙ no_diffs own (diffs_in held))) after.1 in
     let works = ap (λ w. map work_of w.items) c.in_ok-hydrate.ensures.works ∙ same in
     subst (λ ws. IsReplica (schema_tree h.schema) (records h.store) ws h.stash h.others (after_snapshot (is_admitted s) (is_document s) c.args.hydration c.args.diff.now own replica) × AreCounted (diffs_in ws) h.names)
-    (ap (λ o. map work_of h.works.items ++ map presence (option_to_list (maybe_data o))) c.in-Some.is ∙ sym (map-append work_of h.works.items (Presence c.in-Some.record_ ∷ [])) ∙ ap (map work_of) (sym c.push_back_reserved.ensures.items))
+    (ap (λ o. map work_of h.works.items ++ map presence (option_to_list (maybe_data o))) c.in-Some.is ∙ sym (map-append work_of h.works.items (Presence c.in-Some.stored ∷ [])) ∙ ap (map work_of) (sym c.push_back_reserved.ensures.items))
     (shown_last (schema_tree h.schema) (records h.store) (map work_of h.works.items) h.stash h.others replica base own (works ∙ stands.0.works_are) after.0, counted)
 
 pub returns-in_default-clause-ok : goal.returns-in_default-clause-ok

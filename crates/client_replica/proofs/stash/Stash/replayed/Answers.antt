@@ -32,7 +32,7 @@ loop-id-preserved c =
     let r = maybe_data c.in-Some.slot.now in
     let rest = slots_view c.next.new.self in
     let shown = c.loop-id.shown in
-    let after = maybe_data c.in_ok-record_.record_ in
+    let after = maybe_data c.in_ok-stored.stored in
     let first : slots_view c.loop-id.id-iterator ≡ (k, r) ∷ rest = ap slots_view c.in-Some.ensures.steps in
     let key : string_bytes c.in_ok-from_str.field-0 ≡ k = c.in_ok-from_str.ensures.ok ∙ c.as_str-in-loop-id.ensures.value in
     let put = c.in_ok-put.ensures.ok ∙ ap (λ x. with_key shown x after) key in
@@ -42,7 +42,7 @@ loop-id-preserved c =
           let was = c.loop-id.invariant.at base are names in
           let of_base : IsOf base ((k, r) ∷ rest) = subst (IsOf base) first was.0 in
           let values : List ℕ → _ = λ q. value_at (replay (is_admitted (schema_tree c.args.schema.now)) base left) q in
-          let told : values k ≡ after = ap values (sym c.as_str.ensures.value) ∙ c.in_ok-record_.ensures base (ap (value_at base) c.as_str.ensures.value ∙ first_is k r rest base of_base) names in (
+          let told : values k ≡ after = ap values (sym c.as_str.ensures.value) ∙ c.in_ok-stored.ensures base (ap (value_at base) c.as_str.ensures.value ∙ first_is k r rest base of_base) names in (
             rest_is k r rest base rising of_base,
             λ q. ap (λ s. cond (is_some (value_at rest q)) (Some (values q)) (value_at s q)) put ∙ replayed-next values k r after rest shown q told
                 ∙ sym (ap (λ l. cond (is_some (value_at l q)) (Some (values q)) (value_at shown q)) first) ∙ was.1 q,

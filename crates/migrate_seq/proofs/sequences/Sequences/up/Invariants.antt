@@ -8,4 +8,4 @@ use Rattle.migrate_seq.proofs.sequences.Sequences.up.Given as goal
 abbrev pub invariant-loop-place : goal.invariant-loop-place
 invariant-loop-place l =
     let seqs = l.self.sequences.items in
-    raised_along (migrations_at seqs l.place-items) (data_of l.record_) ≡ raised_along (migrations_at seqs (drop l.place-index l.place-items)) (data_of l.after)
+    raised_along (migrations_at seqs l.place-items) (data_of l.stored) ≡ raised_along (migrations_at seqs (drop l.place-index l.place-items)) (data_of l.after)

@@ -73,7 +73,7 @@ pub returns-in-Ok-clause-ok : goal.returns-in-Ok-clause-ok
 returns-in-Ok-clause-ok g c =
     let old : Seen = record { keys = c.self.inside.keys; txn = c.self.inside.graph } in
     ap (records_under c.add.new.self) (atoms_same c.commit.new.self c.write_all.new.graph c.commit.ensures.graph) ∙ c.in-Ok.ensures.ok
-    ∙ ap (λ m. set_at m c.args.id.now (maybe_data c.args.record_)) (records_then old c.self.invariant c.args.id.now c.add.new.self c.in_ok-add.ensures.ok (atoms_of c.open.new.graph) (atoms_same c.open.new.graph c.self.inside.graph c.open.ensures.graph) ∙ ap records c.self.view_is)
+    ∙ ap (λ m. set_at m c.args.id.now (maybe_data c.args.stored)) (records_then old c.self.invariant c.args.id.now c.add.new.self c.in_ok-add.ensures.ok (atoms_of c.open.new.graph) (atoms_same c.open.new.graph c.self.inside.graph c.open.ensures.graph) ∙ ap records c.self.view_is)
 
 pub returns-in-Ok-clause-begun : goal.returns-in-Ok-clause-begun
 returns-in-Ok-clause-begun g c =
@@ -99,18 +99,18 @@ returns-in-Ok-clause-apart g c =
     let old : Seen = record { keys = c.self.inside.keys; txn = c.self.inside.graph } in
     let new : Seen = record { keys = c.add.new.self; txn = c.commit.new.self } in
     let same = records_then old c.self.invariant c.args.id.now c.add.new.self c.in_ok-add.ensures.ok (atoms_of c.open.new.graph) (atoms_same c.open.new.graph c.self.inside.graph c.open.ensures.graph) in
-    subst (λ (s : Seen). KeepsApart (IsWritten c.args.id.now (value_at (records s) c.args.id.now) (maybe_data c.args.record_)) s new) c.self.view_is
+    subst (λ (s : Seen). KeepsApart (IsWritten c.args.id.now (value_at (records s) c.args.id.now) (maybe_data c.args.stored)) s new) c.self.view_is
     (kept_apart _ c.self.inside.graph c.open.new.graph c.write_all.new.graph c.commit.new.self c.open.ensures.graph c.commit.ensures.graph
-    (subst (λ (m : Pairs). ChangesOnly (IsWritten c.args.id.now (value_at m c.args.id.now) (maybe_data c.args.record_)) c.open.new.graph c.write_all.new.graph) same c.write_all.ensures.left))
+    (subst (λ (m : Pairs). ChangesOnly (IsWritten c.args.id.now (value_at m c.args.id.now) (maybe_data c.args.stored)) c.open.new.graph c.write_all.new.graph) same c.write_all.ensures.left))
 
 pub returns-in-Ok-clause-joins : goal.returns-in-Ok-clause-joins
 returns-in-Ok-clause-joins g c =
     let old : Seen = record { keys = c.self.inside.keys; txn = c.self.inside.graph } in
     let new : Seen = record { keys = c.add.new.self; txn = c.commit.new.self } in
     let same = records_then old c.self.invariant c.args.id.now c.add.new.self c.in_ok-add.ensures.ok (atoms_of c.open.new.graph) (atoms_same c.open.new.graph c.self.inside.graph c.open.ensures.graph) in
-    subst (λ (s : Seen). JoinsOnly (IsWritten c.args.id.now (value_at (records s) c.args.id.now) (maybe_data c.args.record_)) s new) c.self.view_is
+    subst (λ (s : Seen). JoinsOnly (IsWritten c.args.id.now (value_at (records s) c.args.id.now) (maybe_data c.args.stored)) s new) c.self.view_is
     (joins_these _ c.self.inside.graph c.open.new.graph c.write_all.new.graph c.commit.new.self c.in_ok-open.ensures.journal
-    (subst (λ (m : Pairs). ChangesOnly (IsWritten c.args.id.now (value_at m c.args.id.now) (maybe_data c.args.record_)) c.open.new.graph c.write_all.new.graph) same c.write_all.ensures.left) c.commit.ensures)
+    (subst (λ (m : Pairs). ChangesOnly (IsWritten c.args.id.now (value_at m c.args.id.now) (maybe_data c.args.stored)) c.open.new.graph c.write_all.new.graph) same c.write_all.ensures.left) c.commit.ensures)
 
 pub returns-in-Err-clause-epoch : goal.returns-in-Err-clause-epoch
 returns-in-Err-clause-epoch g c =

@@ -10,6 +10,6 @@ pub returns-clause-admitted : goal.returns-clause-admitted
 returns-clause-admitted c =
     let s = schema_tree c.args.self.now in
     let id = c.args.id.now in
-    let d = data_of c.args.record_.now in
+    let d = data_of c.args.stored.now in
     let is : Ok c.in-Some-type_named.found.now.scope ≡ admission s id d = search rules in
     subst (λ r. (is_ok r ≡ true) ↔ IsAdmitted s id d) (sym is) (law s id d)

@@ -16,5 +16,5 @@ returns-clause-ok g c = λ held stands.
     let records = g.D.DocStore.records in
     let old = c.args.self.now in
     let joined = ap is_open (sym stands.connection) ∙ sym c.is_open.ensures ∙ c.if-not-is_open.false in
-    own_open records held old c.show.new.self c.args.record_ stands joined
+    own_open records held old c.show.new.self c.args.stored stands joined
     (subst (λ d. replica.Stands records (replica.with_work (presence d) (replica_of held)) c.show.new.self) c.in_ok-copy.ensures (c.in_ok-show.ensures.ok (replica_of held) stands.replica))

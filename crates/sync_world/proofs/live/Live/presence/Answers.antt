@@ -12,19 +12,19 @@ use Rattle.sync_world.proofs.live.Live.presence.Goals as goal
 
 pub returns-in_ok-push-in-Ok-clause-step : goal.returns-in_ok-push-in-Ok-clause-step
 returns-in_ok-push-in-Ok-clause-step c = λ schemas world keeps.
-    subst (λ n. Answers schemas world (on_presence schemas n (data_of c.args.record_) world) (Ok c.new.result) c.push.new.self) c.in-Some.ensures.found.0
+    subst (λ n. Answers schemas world (on_presence schemas n (data_of c.args.stored) world) (Ok c.new.result) c.push.new.self) c.in-Some.ensures.found.0
     (presence_done schemas world c.args.self.now keeps c.in-Some.at c.index_mut.result.now c.in-Some.ensures.found.1 c.index_mut.ensures.value c.presence.new.self _ refl refl refl
-    c.args.record_ c.in-Ok.ensures.fault c.in-Ok.ensures.ok c.push.new.self c.in_ok-push-in-Ok.ensures.pushed c.in_ok-push-in-Ok.ensures.given c.new.result c.new.ensures.items)
+    c.args.stored c.in-Ok.ensures.fault c.in-Ok.ensures.ok c.push.new.self c.in_ok-push-in-Ok.ensures.pushed c.in_ok-push-in-Ok.ensures.given c.new.result c.new.ensures.items)
 
 pub returns-in-Err-clause-step : goal.returns-in-Err-clause-step
 returns-in-Err-clause-step c = IfOk-weaker c.refused.result _ _
     (λ answer is. λ schemas world keeps.
     let mid = record c.args.self.now { clients = with_item c.args.self.now.clients c.in-Some.at (record c.index_mut.result.now { peer = c.presence.new.self }) } in
     let fault = c.edit_fault.result in
-    subst (λ a. Answers schemas world (on_presence schemas c.args.number (data_of c.args.record_) world) a mid) (sym is.0)
-    (subst (λ n. Answers schemas world (on_presence schemas n (data_of c.args.record_) world) (Err (Edit fault)) mid) c.in-Some.ensures.found.0
+    subst (λ a. Answers schemas world (on_presence schemas c.args.number (data_of c.args.stored) world) a mid) (sym is.0)
+    (subst (λ n. Answers schemas world (on_presence schemas n (data_of c.args.stored) world) (Err (Edit fault)) mid) c.in-Some.ensures.found.0
     (presence_refused schemas world c.args.self.now keeps c.in-Some.at c.index_mut.result.now c.in-Some.ensures.found.1 c.index_mut.ensures.value c.presence.new.self mid refl refl refl
-    c.args.record_ fault (λ s held stands. c.in-Err.ensures.fault s held stands (λ oom. is.1 (c.edit_fault.ensures ∙ oom)) ∙ ap (λ f. Err f) (sym c.edit_fault.ensures)) c.in-Err.ensures.err)))
+    c.args.stored fault (λ s held stands. c.in-Err.ensures.fault s held stands (λ oom. is.1 (c.edit_fault.ensures ∙ oom)) ∙ ap (λ f. Err f) (sym c.edit_fault.ensures)) c.in-Err.ensures.err)))
     c.refused.ensures
 
 pub returns-in_ok-push-in-Ok-clause-stores : goal.returns-in_ok-push-in-Ok-clause-stores
