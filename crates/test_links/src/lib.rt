@@ -1,7 +1,8 @@
 //! Tests of the calls on sources and links, by tables, of links over a real listener, and of a client's
-//! links. What plays a table's row, and the two ends of a link over a listener, stand outside the tests.
+//! links. The crate has no code of its own.
 #![tactic(auto)]
 
+#[cfg(test)]
 mod client_ends;
 #[cfg(test)]
 mod clients;
@@ -9,9 +10,11 @@ mod clients;
 mod gates;
 #[cfg(test)]
 mod lines;
+#[cfg(test)]
 mod link_calls;
 #[cfg(test)]
 mod links;
+#[cfg(test)]
 mod listener_ends;
 #[cfg(test)]
 mod listeners;

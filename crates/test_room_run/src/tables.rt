@@ -1,7 +1,7 @@
 //! Calls of one thread, and the histories that they write.
-use crate::scripts::first_difference;
 use std::process::Abort;
 use std::test::Fail;
+use test_with_room_runs::first_difference;
 
 // A script that is played in a running room of its own.
 struct Script<'a> {

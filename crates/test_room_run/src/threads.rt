@@ -1,7 +1,7 @@
 //! Sessions of several threads, whatever the schedule.
-use crate::crowd::crowd_difference;
 use std::process::Abort;
 use std::test::Fail;
+use test_with_room_runs::crowd_difference;
 
 #[test]
 fn eight_threads_write_what_one_thread_can(rt: HostRuntime) -> Result<(), Fail> {

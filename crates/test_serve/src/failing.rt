@@ -1,7 +1,7 @@
 //! Links that fail.
-use crate::first_difference;
 use std::process::Abort;
 use std::test::Fail;
+use test_with_served::first_difference;
 
 // One link that fails at each of its calls: the first three before another session comes, then the others, and at none.
 const AT_EACH_CALL: &str = r#"

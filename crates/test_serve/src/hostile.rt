@@ -1,7 +1,7 @@
 //! Texts from hostile peers.
-use crate::first_difference;
 use std::process::Abort;
 use std::test::Fail;
+use test_with_served::first_difference;
 
 // Each mistake by itself, and what it gets.
 const MISTAKES: &str = r#"

@@ -1,7 +1,7 @@
 //! What goes out, and what the room's history is.
-use crate::first_difference;
 use std::process::Abort;
 use std::test::Fail;
+use test_with_served::first_difference;
 
 // Messages that are answered, whole and in pieces.
 const MESSAGES: &str = r#"

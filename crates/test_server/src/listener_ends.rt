@@ -11,7 +11,7 @@ use std::net::{Net, SocketAddr, TcpStream};
 use std::sync::Wait;
 use std::test::Fail;
 use std::thread::{Threads, join};
-use test_serve::spelled;
+use test_with_served::spelled;
 use tungstenite::handshake::client::{request_of, start};
 use tungstenite::{MaskKeys, Message, WebSocket};
 

@@ -4,7 +4,7 @@ use socket_link::worker::ListenerWorker;
 use std::net::{Net, TcpListener, TcpStream};
 use std::process::Abort;
 use std::test::Fail;
-use test_serve::spelled;
+use test_with_served::spelled;
 
 // What the server writes.
 const LINES: &str = r#"{"ended":0,"faults":0,"links":1,"memory":0,"worker":0}

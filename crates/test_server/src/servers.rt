@@ -1,7 +1,7 @@
 //! Servers.
-use crate::{crowd_difference, first_difference};
 use std::process::Abort;
 use std::test::Fail;
+use test_with_servers::{crowd_difference, first_difference};
 
 const SERVERS: &str = r#"
 # Two links of one room, of which each waits for the other. Then the second one's second send fails.
