@@ -23,7 +23,7 @@ use Rattle.room_model.specs.declared.connection.Connection.TheVariants.{Off, Ask
 use Rattle.room_model.specs.declared.limits.TheConstants.{MOST_PUSHES}
 use Rattle.room_events.specs.Following.{IsPushOf, ArePushed, AreResultsOf, replica_given}
 use Rattle.room_events.specs.Told.{clock_of, told_by, EachNext, AllAt, GoOnFrom}
-use Rattle.sync_client.specs.Calls.{Held, asking, asks, opened, replica_of, after_message}
+use Rattle.sync_client.specs.Calls.{ClientState, asking, asks, opened, replica_of, after_message}
 use Rattle.sync_client.specs.Faults.{number_fault, clock_fault, event_fault, clock_after, events_fault, answer_fault, open_fault, take_fault}
 use Rattle.sync_client.specs.declared.fault.TakeFault.{TakeFault}
 use Rattle.sync_client.specs.declared.fault.TakeFault.TheVariants.{WrongRequest, NoPending, WrongPending, ClockBack}
@@ -150,7 +150,7 @@ or_none None b is = is
 or_none (Some x) b is = absurd (cc)
 
 -- what a client does by itself
-pub record Adds (before after : Held) : Type 0 where
+pub record Adds (before after : ClientState) : Type 0 where
   pub base : after.base ≡ before.base
   pub connection : after.client.connection ≡ before.client.connection
   pub reached : after.client.reached ≡ before.client.reached
@@ -165,18 +165,18 @@ module _ (schemas : Schemas) (admits : List ℕ → Data → Bool) where
 
   module _ (versions : Versions) (version : ℕ) where
     -- it said so much and so much came: it pushed these items, of which these are left, and these works are still to be pushed
-    pub record Is (items left : List Pending) (works : List Work) (held : Held) (said : List ClientMessage) (came : List ServerMessage) : Type 0 where
+    pub record Is (items left : List Pending) (works : List Work) (state : ClientState) (said : List ClientMessage) (came : List ServerMessage) : Type 0 where
       pub pushed : AllPushed items (filter_map push_of said)
       pub fine : AreFine versions said
       pub are_sent : AreSent left
-      pub pending : held.client.pending ≡ left ++ all_unsent works
+      pub pending : state.client.pending ≡ left ++ all_unsent works
       -- what came makes this of the replica of a client whose items these are, whatever it will push later
-      pub replica : (more : List Pending) → fold brings (rep [] (items ++ more)) came ≡ rep held.base (left ++ more)
-      pub is_where : IsWhere held.client.connection items came held.client.reached
-      pub of_version : held.client.version ≡ version
+      pub replica : (more : List Pending) → fold brings (rep [] (items ++ more)) came ≡ rep state.base (left ++ more)
+      pub is_where : IsWhere state.client.connection items came state.client.reached
+      pub of_version : state.client.version ≡ version
 
-    abbrev pub Fares : Held → List ClientMessage → List ServerMessage → Type 0
-    Fares held said came = (items : List Pending) × (left : List Pending) × (works : List Work) × Is items left works held said came
+    abbrev pub Fares : ClientState → List ClientMessage → List ServerMessage → Type 0
+    Fares state said came = (items : List Pending) × (left : List Pending) × (works : List Work) × Is items left works state said came
 
     -- who has asked
     pub fares_first : (message : ClientMessage) → message ≡ asks versions 0 (new_client version) → Fares (record { base = []; client = asking 0 (new_client version) }) (message ∷ []) []
@@ -196,7 +196,7 @@ module _ (schemas : Schemas) (admits : List ℕ → Data → Bool) where
     )
 
     module _ (said : List ClientMessage) (came : List ServerMessage) where
-      pub fares_adding : (before after : Held) → Adds before after → Fares before said came → Fares after said came
+      pub fares_adding : (before after : ClientState) → Adds before after → Fares before said came → Fares after said came
       fares_adding before after adds f =
           let items = f.0 in
           let left = f.1 in
@@ -223,17 +223,17 @@ module _ (schemas : Schemas) (admits : List ℕ → Data → Bool) where
       pushed_where (Asking n) items later reached opened h = absurd (cc)
       pushed_where (Open n) items later reached opened h = h
 
-      one_pushed : (items left : List Pending) (works : List Work) (held : Held) (work : Work) → is_open held.client.connection ≡ true → first_unsent held.client.pending ≡ Some work
-          → Is items left works held said came → Fares (record held { client = (push_one held.client work).client }) (said ++ (push_one held.client work).messages) came
-      one_pushed items left [] held work opened first h =
-          let none : first_unsent held.client.pending ≡ None = ap first_unsent h.pending ∙ first_left left [] h.are_sent in
+      one_pushed : (items left : List Pending) (works : List Work) (state : ClientState) (work : Work) → is_open state.client.connection ≡ true → first_unsent state.client.pending ≡ Some work
+          → Is items left works state said came → Fares (record state { client = (push_one state.client work).client }) (said ++ (push_one state.client work).messages) came
+      one_pushed items left [] state work opened first h =
+          let none : first_unsent state.client.pending ≡ None = ap first_unsent h.pending ∙ first_left left [] h.are_sent in
           absurd (cc)
-      one_pushed items left (next ∷ works) held work opened first h =
-          let n = suc held.client.pushes in
+      one_pushed items left (next ∷ works) state work opened first h =
+          let n = suc state.client.pushes in
           let same : next ≡ work = same_Some next work (sym (ap first_unsent h.pending ∙ first_left left (next ∷ works) h.are_sent) ∙ first) in
           let item = sent_item n work in
           let p = pushed_so n work in
-          let now : send_first n held.client.pending ≡ left ++ item ∷ all_unsent works =
+          let now : send_first n state.client.pending ≡ left ++ item ∷ all_unsent works =
           ap (send_first n) h.pending ∙ sent_left n left next works h.are_sent ∙ ap (λ w. left ++ sent_item n w ∷ all_unsent works) same in (
             items ++ item ∷ [],
             left ++ item ∷ [],
@@ -246,30 +246,30 @@ module _ (schemas : Schemas) (admits : List ℕ → Data → Bool) where
               pending = now ∙ sym (append_assoc left (item ∷ []) (all_unsent works));
               replica = λ more.
                   ap (λ all. fold brings (rep [] all) came) (append_assoc items (item ∷ []) more) ∙ h.replica (item ∷ more)
-                  ∙ ap (rep held.base) (sym (append_assoc left (item ∷ []) more));
-              is_where = pushed_where held.client.connection items (items ++ item ∷ []) held.client.reached opened h.is_where;
+                  ∙ ap (rep state.base) (sym (append_assoc left (item ∷ []) more));
+              is_where = pushed_where state.client.connection items (items ++ item ∷ []) state.client.reached opened h.is_where;
               of_version = h.of_version;
             },
           )
 
-    fares_pushing : (n : ℕ) (held : Held) (said : List ClientMessage) (came : List ServerMessage) → Fares held said came
-        → Fares (record held { client = (push_times n held.client).client }) (said ++ (push_times n held.client).messages) came
-    fares_pushing zero held said came f = subst (λ all. Fares held all came) (sym (append-nil said)) f
-    fares_pushing (suc n) held said came f =
-        let After : Pushing → Type 0 = λ p. Fares (record held { client = p.client }) (said ++ p.messages) came in
-        elim (next_push held.client) as (λ o. next_push held.client ≡ o → After (option_map_or (λ one. let more = push_times n one.client in record more { messages = one.messages ++ more.messages }) o (push_none held.client))) [
-          | None ↦ λ is. subst (λ all. Fares held all came) (sym (append-nil said)) f
+    fares_pushing : (n : ℕ) (state : ClientState) (said : List ClientMessage) (came : List ServerMessage) → Fares state said came
+        → Fares (record state { client = (push_times n state.client).client }) (said ++ (push_times n state.client).messages) came
+    fares_pushing zero state said came f = subst (λ all. Fares state all came) (sym (append-nil said)) f
+    fares_pushing (suc n) state said came f =
+        let After : Pushing → Type 0 = λ p. Fares (record state { client = p.client }) (said ++ p.messages) came in
+        elim (next_push state.client) as (λ o. next_push state.client ≡ o → After (option_map_or (λ one. let more = push_times n one.client in record more { messages = one.messages ++ more.messages }) o (push_none state.client))) [
+          | None ↦ λ is. subst (λ all. Fares state all came) (sym (append-nil said)) f
           | Some p ↦ λ is.
-              let next = next_same held.client p is in
-              let one : After p = subst After (sym next.1.2) (one_pushed said came f.0 f.1 f.2 held next.1.0 next.0 next.1.1 f.3) in
-              let rest = fares_pushing n (record held { client = p.client }) (said ++ p.messages) came one in
-              subst (λ all. Fares (record held { client = (push_times n p.client).client }) all came) (append_assoc said p.messages (push_times n p.client).messages) rest
+              let next = next_same state.client p is in
+              let one : After p = subst After (sym next.1.2) (one_pushed said came f.0 f.1 f.2 state next.1.0 next.0 next.1.1 f.3) in
+              let rest = fares_pushing n (record state { client = p.client }) (said ++ p.messages) came one in
+              subst (λ all. Fares (record state { client = (push_times n p.client).client }) all came) (append_assoc said p.messages (push_times n p.client).messages) rest
         ] refl
 
     -- all that it can push
-    pub fares_saying : (held : Held) (said : List ClientMessage) (came : List ServerMessage) → Fares held said came
-        → Fares (record held { client = (push_all held.client).client }) (said ++ (push_all held.client).messages) came
-    fares_saying held said came f = fares_pushing (length held.client.pending) held said came f
+    pub fares_saying : (state : ClientState) (said : List ClientMessage) (came : List ServerMessage) → Fares state said came
+        → Fares (record state { client = (push_all state.client).client }) (said ++ (push_all state.client).messages) came
+    fares_saying state said came f = fares_pushing (length state.client.pending) state said came f
 
     -- what events make of a replica whose first items are those that were sent
     record IsTold (base : Pairs) (left : List Pending) (events : List DataEvent) : Type 0 where
@@ -278,19 +278,19 @@ module _ (schemas : Schemas) (admits : List ℕ → Data → Bool) where
       are_sent : AreSent left_now
       is : (more : List Pending) → after_events admits (rep base (left ++ more)) events ≡ rep base_now (left_now ++ more)
 
-    no_item : (works : List Work) (number clock held : ℤ) (action : Action) (events : List DataEvent) → events_fault (all_unsent works) held (PushResult number clock action ∷ events) ≡ None → ⊥
-    no_item [] number clock held action events none = absurd (cc)
-    no_item (work ∷ works) number clock held action events none = absurd (cc)
+    no_item : (works : List Work) (number clock reached : ℤ) (action : Action) (events : List DataEvent) → events_fault (all_unsent works) reached (PushResult number clock action ∷ events) ≡ None → ⊥
+    no_item [] number clock reached action events none = absurd (cc)
+    no_item (work ∷ works) number clock reached action events none = absurd (cc)
 
-    events_taken : (events : List DataEvent) (base : Pairs) (left : List Pending) (works : List Work) (held : ℤ) → AreSent left → events_fault (left ++ all_unsent works) held events ≡ None → IsTold base left events
-    events_taken [] base left works held sent none = record { base_now = base; left_now = left; are_sent = sent; is = λ more. refl }
-    events_taken (Patch diff clock ∷ events) base left works held sent none =
-        let rest = or_none (clock_fault held clock) (events_fault (left ++ all_unsent works) clock events) none in
+    events_taken : (events : List DataEvent) (base : Pairs) (left : List Pending) (works : List Work) (reached : ℤ) → AreSent left → events_fault (left ++ all_unsent works) reached events ≡ None → IsTold base left events
+    events_taken [] base left works reached sent none = record { base_now = base; left_now = left; are_sent = sent; is = λ more. refl }
+    events_taken (Patch diff clock ∷ events) base left works reached sent none =
+        let rest = or_none (clock_fault reached clock) (events_fault (left ++ all_unsent works) clock events) none in
         let t = events_taken events (step admits base diff) left works clock sent rest in
         record { base_now = t.base_now; left_now = t.left_now; are_sent = t.are_sent; is = t.is }
-    events_taken (PushResult number clock action ∷ events) base [] works held sent none = absurd (no_item works number clock held action events none)
-    events_taken (PushResult number clock action ∷ events) base (item ∷ left) works held sent none =
-        let rest = or_none (event_fault item.sent_as held (PushResult number clock action)) (events_fault (left ++ all_unsent works) clock events) none in
+    events_taken (PushResult number clock action ∷ events) base [] works reached sent none = absurd (no_item works number clock reached action events none)
+    events_taken (PushResult number clock action ∷ events) base (item ∷ left) works reached sent none =
+        let rest = or_none (event_fault item.sent_as reached (PushResult number clock action)) (events_fault (left ++ all_unsent works) clock events) none in
         let t = events_taken events (step admits base (result_diff (first_diff (item ∷ left)) action)) left works clock sent.1 rest in
         record { base_now = t.base_now; left_now = t.left_now; are_sent = t.are_sent; is = t.is }
 
@@ -300,21 +300,21 @@ module _ (schemas : Schemas) (admits : List ℕ → Data → Bool) where
     told_clock (PushResult number clock action ∷ events) reached = told_clock events clock
 
     -- a message is taken
-    module _ (items left : List Pending) (works : List Work) (held : Held) (said : List ClientMessage) (came : List ServerMessage) (h : Is items left works held said came) where
-      where_at : (c : Connection) → held.client.connection ≡ c → IsWhere c items came held.client.reached
-      where_at c is = subst (λ c. IsWhere c items came held.client.reached) is h.is_where
+    module _ (items left : List Pending) (works : List Work) (state : ClientState) (said : List ClientMessage) (came : List ServerMessage) (h : Is items left works state said came) where
+      where_at : (c : Connection) → state.client.connection ≡ c → IsWhere c items came state.client.reached
+      where_at c is = subst (λ c. IsWhere c items came state.client.reached) is h.is_where
 
-      connect_taken : (hydration : Hydration) (request : List ℕ) (protocol : ℤ) (told : Versions) (diff : RecordOps) (clock : ℤ) (readonly : Bool) (c : Connection) → held.client.connection ≡ c
-          → answer_fault c request ≡ None → let message = reply.Connect hydration request protocol told diff clock readonly in Fares (after_message admits schemas.is_document held message) said (came ++ message ∷ [])
+      connect_taken : (hydration : Hydration) (request : List ℕ) (protocol : ℤ) (told : Versions) (diff : RecordOps) (clock : ℤ) (readonly : Bool) (c : Connection) → state.client.connection ≡ c
+          → answer_fault c request ≡ None → let message = reply.Connect hydration request protocol told diff clock readonly in Fares (after_message admits schemas.is_document state message) said (came ++ message ∷ [])
       connect_taken hydration request protocol told diff clock readonly Off is none = absurd (cc)
       connect_taken hydration request protocol told diff clock readonly (Asking n) is none =
           let message = reply.Connect hydration request protocol told diff clock readonly in
           let w = where_at (Asking n) is in
-          let e : rep [] (items ++ []) ≡ rep held.base (left ++ []) = subst (λ ms. fold brings (rep [] (items ++ [])) ms ≡ rep held.base (left ++ [])) w.2 (h.replica []) in
-          let base : [] ≡ held.base = ap (λ (r : Replica). r.base) e in (
+          let e : rep [] (items ++ []) ≡ rep state.base (left ++ []) = subst (λ ms. fold brings (rep [] (items ++ [])) ms ≡ rep state.base (left ++ [])) w.2 (h.replica []) in
+          let base : [] ≡ state.base = ap (λ (r : Replica). r.base) e in (
             [],
             [],
-            map edit (pending_diffs held.client) ++ map presence (option_to_list held.client.presence),
+            map edit (pending_diffs state.client) ++ map presence (option_to_list state.client.presence),
             record {
               pushed = subst (λ is. AllPushed is (filter_map push_of said)) w.1 h.pushed;
               fine = h.fine;
@@ -327,15 +327,15 @@ module _ (schemas : Schemas) (admits : List ℕ → Data → Bool) where
           )
       connect_taken hydration request protocol told diff clock readonly (Open n) is none = absurd (cc)
 
-      data_taken : (events : List DataEvent) (c : Connection) → held.client.connection ≡ c → open_fault c (events_fault held.client.pending held.client.reached events) ≡ None
-          → Fares (after_message admits schemas.is_document held (reply.Data events)) said (came ++ reply.Data events ∷ [])
+      data_taken : (events : List DataEvent) (c : Connection) → state.client.connection ≡ c → open_fault c (events_fault state.client.pending state.client.reached events) ≡ None
+          → Fares (after_message admits schemas.is_document state (reply.Data events)) said (came ++ reply.Data events ∷ [])
       data_taken events Off is none = absurd (cc)
       data_taken events (Asking n) is none = absurd (cc)
       data_taken events (Open n) is none =
           let message = reply.Data events in
           let w = where_at (Open n) is in
-          let t = events_taken events held.base left works held.client.reached h.are_sent (subst (λ p. events_fault p held.client.reached events ≡ None) h.pending none) in
-          let e : after_events admits (replica_of held) events ≡ rep t.base_now (t.left_now ++ all_unsent works) = ap (λ p. after_events admits (rep held.base p) events) h.pending ∙ t.is (all_unsent works) in (
+          let t = events_taken events state.base left works state.client.reached h.are_sent (subst (λ p. events_fault p state.client.reached events ≡ None) h.pending none) in
+          let e : after_events admits (replica_of state) events ≡ rep t.base_now (t.left_now ++ all_unsent works) = ap (λ p. after_events admits (rep state.base p) events) h.pending ∙ t.is (all_unsent works) in (
             items,
             t.left_now,
             works,
@@ -347,13 +347,13 @@ module _ (schemas : Schemas) (admits : List ℕ → Data → Bool) where
               replica = λ more.
                   fold-append brings (rep [] (items ++ more)) came (message ∷ []) ∙ ap (λ r. brings r message) (h.replica more) ∙ t.is more
                   ∙ ap (λ b. rep b (t.left_now ++ more)) (sym (ap (λ (r : Replica). r.base) e));
-              is_where = subst (λ c. IsWhere c items (came ++ message ∷ []) (clock_after held.client.reached events)) (sym is)
-                  (fold-append tells None came (message ∷ []) ∙ ap (λ o. tells o message) w ∙ told_clock events held.client.reached);
+              is_where = subst (λ c. IsWhere c items (came ++ message ∷ []) (clock_after state.client.reached events)) (sym is)
+                  (fold-append tells None came (message ∷ []) ∙ ap (λ o. tells o message) w ∙ told_clock events state.client.reached);
               of_version = h.of_version;
             },
           )
 
-      pong_taken : (c : Connection) → held.client.connection ≡ c → open_fault c None ≡ None → Fares held said (came ++ reply.Pong ∷ [])
+      pong_taken : (c : Connection) → state.client.connection ≡ c → open_fault c None ≡ None → Fares state said (came ++ reply.Pong ∷ [])
       pong_taken Off is none = absurd (cc)
       pong_taken (Asking n) is none = absurd (cc)
       pong_taken (Open n) is none =
@@ -367,24 +367,24 @@ module _ (schemas : Schemas) (admits : List ℕ → Data → Bool) where
               are_sent = h.are_sent;
               pending = h.pending;
               replica = λ more. fold-append brings (rep [] (items ++ more)) came (reply.Pong ∷ []) ∙ h.replica more;
-              is_where = subst (λ c. IsWhere c items (came ++ reply.Pong ∷ []) held.client.reached) (sym is) (fold-append tells None came (reply.Pong ∷ []) ∙ w);
+              is_where = subst (λ c. IsWhere c items (came ++ reply.Pong ∷ []) state.client.reached) (sym is) (fold-append tells None came (reply.Pong ∷ []) ∙ w);
               of_version = h.of_version;
             },
           )
 
-    pub fares_taking : (held : Held) (said : List ClientMessage) (came : List ServerMessage) (message : ServerMessage) → take_fault held.client message ≡ None → Fares held said came
-        → Fares (after_message admits schemas.is_document held message) said (came ++ message ∷ [])
-    fares_taking held said came (reply.Connect hydration request protocol told diff clock readonly) none f =
-        connect_taken f.0 f.1 f.2 held said came f.3 hydration request protocol told diff clock readonly held.client.connection refl none
-    fares_taking held said came (reply.Data events) none f = data_taken f.0 f.1 f.2 held said came f.3 events held.client.connection refl none
-    fares_taking held said came reply.Pong none f = pong_taken f.0 f.1 f.2 held said came f.3 held.client.connection refl none
+    pub fares_taking : (state : ClientState) (said : List ClientMessage) (came : List ServerMessage) (message : ServerMessage) → take_fault state.client message ≡ None → Fares state said came
+        → Fares (after_message admits schemas.is_document state message) said (came ++ message ∷ [])
+    fares_taking state said came (reply.Connect hydration request protocol told diff clock readonly) none f =
+        connect_taken f.0 f.1 f.2 state said came f.3 hydration request protocol told diff clock readonly state.client.connection refl none
+    fares_taking state said came (reply.Data events) none f = data_taken f.0 f.1 f.2 state said came f.3 events state.client.connection refl none
+    fares_taking state said came reply.Pong none f = pong_taken f.0 f.1 f.2 state said came f.3 state.client.connection refl none
 
 -- what is expected isn't refused
 
--- no clock of events lies below a held one, or that of the event before
+-- no clock of events lies below the one reached, or that of the event before
 abbrev pub AreNotBelow : ℤ → List DataEvent → Type 0
-AreNotBelow held [] = Unit {0}
-AreNotBelow held (event ∷ events) = (int_lt (clock_of event) held ≡ false) × AreNotBelow (clock_of event) events
+AreNotBelow reached [] = Unit {0}
+AreNotBelow reached (event ∷ events) = (int_lt (clock_of event) reached ≡ false) × AreNotBelow (clock_of event) events
 
 next_not_below : (n : ℕ) (events : List DataEvent) → EachNext n events → AreNotBelow (pos n) events
 next_not_below n [] h = tt
@@ -393,10 +393,10 @@ next_not_below n (event ∷ events) h = (
   subst (λ z. AreNotBelow z events) (sym h.0) (next_not_below (suc n) events h.1),
 )
 
-same_not_below : (held : ℕ) (to : ℕ) (events : List DataEvent) → held ≤ to → AllAt to events → AreNotBelow (pos held) events
-same_not_below held to [] less h = tt
-same_not_below held to (event ∷ events) less h = (
-  ap (λ z. int_lt z (pos held)) h.0 ∙ lt_false to held less,
+same_not_below : (reached : ℕ) (to : ℕ) (events : List DataEvent) → reached ≤ to → AllAt to events → AreNotBelow (pos reached) events
+same_not_below reached to [] less h = tt
+same_not_below reached to (event ∷ events) less h = (
+  ap (λ z. int_lt z (pos reached)) h.0 ∙ lt_false to reached less,
   subst (λ z. AreNotBelow z events) (sym h.0) (same_not_below to to events (omega arith) h.1),
 )
 
@@ -409,15 +409,15 @@ number_expected None number is = absurd (cc)
 number_expected (Some n) number is =
     subst (λ z. number_fault z n ≡ None) (same_Some (pos n) number is) (ap (λ (b : Bool). cond {A = Option TakeFault} b None (Some (WrongPending (pos n) (pos n)))) ((Decides-eqb n n).1 refl))
 
-pub events_expected : (events : List DataEvent) (left : List Pending) (works : List Work) (held : ℤ) → AreResultsOf left events → AreNotBelow held events → events_fault (left ++ all_unsent works) held events ≡ None
-events_expected [] left works held results rise = refl
-events_expected (Patch diff clock ∷ events) left works held results rise =
-    ap (λ (b : Bool). option_or (cond {A = Option TakeFault} b (Some (ClockBack held clock)) None) (events_fault (left ++ all_unsent works) clock events)) rise.0
+pub events_expected : (events : List DataEvent) (left : List Pending) (works : List Work) (reached : ℤ) → AreResultsOf left events → AreNotBelow reached events → events_fault (left ++ all_unsent works) reached events ≡ None
+events_expected [] left works reached results rise = refl
+events_expected (Patch diff clock ∷ events) left works reached results rise =
+    ap (λ (b : Bool). option_or (cond {A = Option TakeFault} b (Some (ClockBack reached clock)) None) (events_fault (left ++ all_unsent works) clock events)) rise.0
     ∙ events_expected events left works clock results rise.1
-events_expected (PushResult number clock action ∷ events) [] works held results rise = absurd results
-events_expected (PushResult number clock action ∷ events) (item ∷ left) works held results rise =
-    ap (λ (o : Option TakeFault). option_or (option_or o (clock_fault held clock)) (events_fault (left ++ all_unsent works) clock events)) (number_expected item.sent_as number results.0)
-    ∙ ap (λ (b : Bool). option_or (cond {A = Option TakeFault} b (Some (ClockBack held clock)) None) (events_fault (left ++ all_unsent works) clock events)) rise.0
+events_expected (PushResult number clock action ∷ events) [] works reached results rise = absurd results
+events_expected (PushResult number clock action ∷ events) (item ∷ left) works reached results rise =
+    ap (λ (o : Option TakeFault). option_or (option_or o (clock_fault reached clock)) (events_fault (left ++ all_unsent works) clock events)) (number_expected item.sent_as number results.0)
+    ∙ ap (λ (b : Bool). option_or (cond {A = Option TakeFault} b (Some (ClockBack reached clock)) None) (events_fault (left ++ all_unsent works) clock events)) rise.0
     ∙ events_expected events left works clock results.1 rise.1
 
 module _ (items : List Pending) (came : List ServerMessage) (reached : ℤ) where

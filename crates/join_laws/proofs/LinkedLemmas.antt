@@ -21,7 +21,7 @@ use Rattle.room_model.specs.Schemas.{WorldSchemas, AreLawfulTogether}
 use Rattle.room_model.specs.declared.fault.StepFault.TheVariants.{Edit, Limit}
 use Rattle.side_effects.specs.declared.fault.EditFault.{EditFault}
 use Rattle.signal_core.specs.declared.watch.TheConstants.{MOST_WATCHES}
-use Rattle.sync_client.specs.Calls.{Held}
+use Rattle.sync_client.specs.Calls.{ClientState}
 use Rattle.sync_client.specs.Faults.{take_fault}
 use Rattle.sync_client.specs.Presences.{with_presence}
 use Rattle.sync_client.specs.declared.fault.TakeFault.{TakeFault}
@@ -49,25 +49,25 @@ module _ (schemas : WorldSchemas EditFault) where
   edits_keep joiner (Err fault) = tt
 
   presence_keeps : (joiner : Joiner) (d : Data) (o : Option EditFault)
-      → Keeps joiner (option_map_or (λ fault. Err (Edit fault)) o (Ok (record { joiner = record joiner { held = record joiner.held { client = with_presence d joiner.held.client } }; lines = [] })))
+      → Keeps joiner (option_map_or (λ fault. Err (Edit fault)) o (Ok (record { joiner = record joiner { state = record joiner.state { client = with_presence d joiner.state.client } }; lines = [] })))
   presence_keeps joiner d None = (refl, refl)
   presence_keeps joiner d (Some fault) = tt
 
-  bail_keeps : (joiner : Joiner) (o : Result (Unit {0}) BailFault) (held : Held) → Keeps joiner (bail_with o held joiner)
-  bail_keeps joiner (Ok done) held = (refl, refl)
-  bail_keeps joiner (Err fault) held = tt
+  bail_keeps : (joiner : Joiner) (o : Result (Unit {0}) BailFault) (state : ClientState) → Keeps joiner (bail_with o state joiner)
+  bail_keeps joiner (Ok done) state = (refl, refl)
+  bail_keeps joiner (Err fault) state = tt
 
   watch_keeps : (joiner watching : Joiner) (b : Bool) → watching.waiting ≡ joiner.waiting → watching.is_lost ≡ joiner.is_lost → Keeps joiner (cond b (Err Limit) (Ok (record { joiner = watching; lines = [] })))
   watch_keeps joiner watching true waits lost = tt
   watch_keeps joiner watching false waits lost = (waits, lost)
 
   pub acts_keep : (a : Act) (joiner : Joiner) → Keeps joiner (acts schemas a joiner)
-  acts_keep (act.Edit diff) joiner = edits_keep joiner (completion schemas joiner.held diff)
-  acts_keep (act.Presence val) joiner = presence_keeps joiner (data_of val) (refusal schemas joiner.held (data_of val))
+  acts_keep (act.Edit diff) joiner = edits_keep joiner (completion schemas joiner.state diff)
+  acts_keep (act.Presence val) joiner = presence_keeps joiner (data_of val) (refusal schemas joiner.state (data_of val))
   acts_keep (act.Mark name) joiner = (refl, refl)
   acts_keep act.Undo joiner = (refl, refl)
   acts_keep act.Redo joiner = (refl, refl)
-  acts_keep (act.Bail name) joiner = bail_keeps joiner (bail_done name joiner.held.client.marks) (bailed schemas name joiner.held)
+  acts_keep (act.Bail name) joiner = bail_keeps joiner (bail_done name joiner.state.client.marks) (bailed schemas name joiner.state)
   acts_keep (act.Watch view) joiner = watch_keeps joiner _ (nat_le MOST_WATCHES (length joiner.watched)) refl refl
   acts_keep (act.Query type query) joiner = (refl, refl)
   acts_keep act.Show joiner = (refl, refl)
@@ -119,7 +119,7 @@ module _ (schemas : WorldSchemas EditFault) where
         let same : hears message now ≡ step = cc in
         let joins : way.came ++ (message ∷ next.0) ≡ messages = ap (λ ms. way.came ++ ms) (sym next.1) ∙ are in
         subst (λ s. Fine left (after_step schemas way s)) same
-        (subst (Fine left) (none_stays way (hears message now) none) (message_fine left way message now next.0 (take_fault way.joiner.held.client message) joins next.2))
+        (subst (Fine left) (none_stays way (hears message now) none) (message_fine left way message now next.0 (take_fault way.joiner.state.client message) joins next.2))
     waited_fine left way (heard.Refused fault) now step d none are next is = absurd next
     waited_fine left way heard.Lost now step d none are next is = absurd (cc)
     waited_fine left way heard.Idle now step d none are next is =

@@ -85,14 +85,14 @@ module _ (schemas : WorldSchemas EditFault) (back : PiecesComeBack) (room : ℕ)
     way_waited h waiting what waits is = waited (way_at joiner said w.1) now left h waiting what w.2 refl waits is
 
     -- it took a message, or didn't for a fault
-    way_heard : (message : ServerMessage) (waiting : Assembly) (o : Option TakeFault) → Waits joiner.waiting now (heard.Message message) waiting left → take_fault joiner.held.client message ≡ o
+    way_heard : (message : ServerMessage) (waiting : Assembly) (o : Option TakeFault) → Waits joiner.waiting now (heard.Message message) waiting left → take_fault joiner.state.client message ≡ o
         → Comes schemas w.0 room coming (after_coming schemas message o (record joiner { waiting = waiting }) (way_at joiner said w.1)) left
     way_heard message waiting o waits is =
         subst (λ (o : Option TakeFault). Comes schemas w.0 room coming (after_coming schemas message o (record joiner { waiting = waiting }) (way_at joiner said w.1)) left) is
         (way_waited (heard.Message message) waiting (hears message waiting) waits refl)
 
     -- a message that isn't taken, and a text that is refused, come from no session that serves it
-    not_taken : (message : ServerMessage) (waiting : Assembly) (fault : TakeFault) → Waits joiner.waiting now (heard.Message message) waiting left → take_fault joiner.held.client message ≡ Some fault → Unserved said
+    not_taken : (message : ServerMessage) (waiting : Assembly) (fault : TakeFault) → Waits joiner.waiting now (heard.Message message) waiting left → take_fault joiner.state.client message ≡ Some fault → Unserved said
     not_taken message waiting fault waits is last events number lawful legal serves =
         let none : Some fault ≡ None =
         took_all schemas back w.0 room coming (after_coming schemas message (Some fault) (record joiner { waiting = waiting }) (way_at joiner said w.1)) left (way_heard message waiting (Some fault) waits is)
@@ -122,7 +122,7 @@ module _ (schemas : WorldSchemas EditFault) (back : PiecesComeBack) (room : ℕ)
       abbrev takes_by : ServerMessage → Option TakeFault → Result Acted (Option (List ℕ))
       takes_by message o = option_map_or (λ fault. Err (take_fault_text fault)) o (Ok (record { joiner = with_message schemas message (record joiner { waiting = waiting }); lines = [] }))
 
-      message_so : (message : ServerMessage) → Waits joiner.waiting now (heard.Message message) waiting left → (o : Option TakeFault) → take_fault joiner.held.client message ≡ o
+      message_so : (message : ServerMessage) → Waits joiner.waiting now (heard.Message message) waiting left → (o : Option TakeFault) → take_fault joiner.state.client message ≡ o
           → IsHeeded schemas at (takes_by message o) left turn → So turn
       message_so message waits None is done =
           let w = holds not_lost in
@@ -131,7 +131,7 @@ module _ (schemas : WorldSchemas EditFault) (back : PiecesComeBack) (room : ℕ)
           subst So (sym done.2) (served_not (Some joiner) now left said at done.0 (not_taken joiner said now left (holds not_lost) message waiting fault waits is))
 
       heard_so : (h : Heard) → Waits joiner.waiting now h waiting left → IsHeeded schemas at (heard_of schemas (record joiner { waiting = waiting }) h) left turn → So turn
-      heard_so (heard.Message message) waits done = message_so message waits (take_fault joiner.held.client message) refl done
+      heard_so (heard.Message message) waits done = message_so message waits (take_fault joiner.state.client message) refl done
       heard_so (heard.Refused fault) waits done =
           let w = holds not_lost in
           subst So (sym done.2) (served_not (Some joiner) now left said at done.0
@@ -267,15 +267,15 @@ module _ (schemas : WorldSchemas EditFault) (back : PiecesComeBack) (room : ℕ)
       comes_so = (on_way.0, way_at joiner said on_way.1, on_way.2, refl, refl, refl)
 
       pub base_so : (last : ℕ) (events : List RoomEvent) (number : ℕ) (plan : Plan) → AreLawfulTogether schemas → Legal schemas.room last events → ServesOver (events_of number events) coming said
-          → schemas.room.plan_for (schemas.client joiner.held.client.version).versions ≡ Ok plan
-          → joiner.held.base ≡ whole_for schemas.room plan number (records_of (up_to joiner.held.client.reached (state_of schemas.room last events).history))
+          → schemas.room.plan_for (schemas.client joiner.state.client.version).versions ≡ Ok plan
+          → joiner.state.base ≡ whole_for schemas.room plan number (records_of (up_to joiner.state.client.reached (state_of schemas.room last events).history))
       base_so last events number plan lawful legal serves planned =
           let w = on_way in
           let h = served schemas back w.0 room coming (way_at joiner said w.1) left w.2 (events_of number events) serves in
           let here = subst (Serves (events_of number events)) (sym h.1) h.2 in
-          let version : joiner.held.client.version ≡ w.0 = ap (λ (way : Way). way.joiner.held.client.version) (sym h.1) ∙ version_is schemas w.0 lawful last events number legal room h.0 here in
+          let version : joiner.state.client.version ≡ w.0 = ap (λ (way : Way). way.joiner.state.client.version) (sym h.1) ∙ version_is schemas w.0 lawful last events number legal room h.0 here in
           let planned_here = subst (λ v. schemas.room.plan_for (schemas.client v).versions ≡ Ok plan) version planned in
-          subst (λ (way : Way). way.joiner.held.base ≡ whole_for schemas.room plan number (records_of (up_to way.joiner.held.client.reached (state_of schemas.room last events).history))) h.1
+          subst (λ (way : Way). way.joiner.state.base ≡ whole_for schemas.room plan number (records_of (up_to way.joiner.state.client.reached (state_of schemas.room last events).history))) h.1
           (base_is schemas w.0 lawful last events number legal room h.0 here plan planned_here)
 
     module _ (all : Played) (plays : Joins schemas room script coming all) where

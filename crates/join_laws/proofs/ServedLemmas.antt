@@ -28,7 +28,7 @@ use Rattle.room_events.proofs.FollowLemmas.{history_grows, client_follows, told_
 use Rattle.room_events.proofs.LegalLemmas.{before as legal_before}
 use Rattle.room_events.proofs.PingLemmas.{no_pong}
 use Rattle.room_events.proofs.ToldLemmas.{updates_from}
-use Rattle.sync_client.specs.Calls.{Held}
+use Rattle.sync_client.specs.Calls.{ClientState}
 use Rattle.sync_client.specs.Faults.{events_fault, answer_fault, take_fault}
 use Rattle.sync_msgs.specs.declared.client_message.ClientMessage.{ClientMessage}
 use Rattle.sync_msgs.specs.declared.client_message.ClientMessage.TheVariants as say
@@ -208,8 +208,8 @@ module _ (schemas : Schemas) (lawful : AreLawful schemas) (admits : List ℕ →
   plan_admits (Ok plan) is none id d = same (is ∙ ap Ok none) id d
   plan_admits (Err reason) is none id d = absurd (cc)
 
-  module _ (last : ℕ) (n : ℕ) (items left : List Pending) (works : List Work) (held : Held) (said : List ClientMessage) (came : List ServerMessage)
-      (h : Is schemas admits versions version items left works held said came) where
+  module _ (last : ℕ) (n : ℕ) (items left : List Pending) (works : List Work) (state : ClientState) (said : List ClientMessage) (came : List ServerMessage)
+      (h : Is schemas admits versions version items left works state said came) where
     follows : (before : List RoomEvent) → BeginsWith said (sent_from n before) → Follows schemas (follower items) (events_of n before)
     follows before b = record {
       asks = asks_fine items (events_of n before) (fine_first versions (sent_from n before) b.0 (subst (AreFine versions) (sym b.1) h.fine));
@@ -219,10 +219,10 @@ module _ (schemas : Schemas) (lawful : AreLawful schemas) (admits : List ℕ →
       admits = λ none id d. plan_admits (schemas.plan_for versions) refl none id d;
     }
 
-    replica_is : (before : List RoomEvent) → given_to n before ≡ came → replica_of schemas (follower items) (events_of n before) ≡ rep held.base left
+    replica_is : (before : List RoomEvent) → given_to n before ≡ came → replica_of schemas (follower items) (events_of n before) ≡ rep state.base left
     replica_is before first =
         replica_came schemas admits (events_of n before) (rep [] items) ∙ ap (λ ms. fold (brings schemas admits) (rep [] items) ms) first
-        ∙ ap (λ all. fold (brings schemas admits) (rep [] all) came) (sym (append-nil items)) ∙ h.replica [] ∙ ap (rep held.base) (append-nil left)
+        ∙ ap (λ all. fold (brings schemas admits) (rep [] all) came) (sym (append-nil items)) ∙ h.replica [] ∙ ap (rep state.base) (append-nil left)
 
     told_is : (before : List RoomEvent) → given_to n before ≡ came → fold tells None came ≡ told_up_to (events_of n before)
     told_is before first = sym (told_came (events_of n before) None ∙ ap (λ ms. fold tells None ms) first)
@@ -230,23 +230,23 @@ module _ (schemas : Schemas) (lawful : AreLawful schemas) (admits : List ℕ →
     module _ (events : List RoomEvent) (legal : Legal schemas last events) (sends : BeginsWith said (sent_from n events)) where
       module _ (before after : List RoomEvent) where
         connect_so : (message : ServerMessage) (request : List ℕ) → before ++ Drain n (Some (out.Message message)) ∷ after ≡ events → given_to n before ≡ came → request_of message ≡ Some request
-            → answer_fault held.client.connection request ≡ None
+            → answer_fault state.client.connection request ≡ None
         connect_so message request is first of_ =
             let b = sent_before n events before (Drain n (Some (out.Message message)) ∷ after) said is sends in
             let e = snapshot_expected schemas lawful last n (follower items) before after message request (subst (Legal schemas last) (sym is) legal) (follows before b) of_ in
-            connect_expected items came held.client.reached held.client.connection request h.is_where (told_is before first ∙ e.0) e.1
+            connect_expected items came state.client.reached state.client.connection request h.is_where (told_is before first ∙ e.0) e.1
 
-        data_so : (news : List DataEvent) → before ++ Drain n (Some (out.Message (reply.Data news))) ∷ after ≡ events → given_to n before ≡ came → take_fault held.client (reply.Data news) ≡ None
+        data_so : (news : List DataEvent) → before ++ Drain n (Some (out.Message (reply.Data news))) ∷ after ≡ events → given_to n before ≡ came → take_fault state.client (reply.Data news) ≡ None
         data_so news is first =
             let b = sent_before n events before (Drain n (Some (out.Message (reply.Data news))) ∷ after) said is sends in
             let made : Legal schemas last (before ++ Drain n (Some (out.Message (reply.Data news))) ∷ after) = subst (Legal schemas last) (sym is) legal in
             let u = updates_from schemas last before after n news made in
             let results = results_expected schemas lawful last n (follower items) before after news made (follows before b) in
             let of_left : AreResultsOf left news = subst (λ (r : Replica). AreResultsOf r.pending news) (replica_is before first) results in
-            data_expected items came held.client.reached held.client.connection u.0 (events_fault held.client.pending held.client.reached news) h.is_where (told_is before first ∙ u.1)
+            data_expected items came state.client.reached state.client.connection u.0 (events_fault state.client.pending state.client.reached news) h.is_where (told_is before first ∙ u.1)
             (λ at.
-            ap (λ p. events_fault p held.client.reached news) h.pending
-            ∙ events_expected news left works held.client.reached of_left (subst (λ z. AreNotBelow z news) (sym at) (go_on_not_below u.0 news u.2)))
+            ap (λ p. events_fault p state.client.reached news) h.pending
+            ∙ events_expected news left works state.client.reached of_left (subst (λ z. AreNotBelow z news) (sym at) (go_on_not_below u.0 news u.2)))
 
         pong_so : before ++ Drain n (Some (out.Message reply.Pong)) ∷ after ≡ events → ⊥
         pong_so is =
@@ -262,7 +262,7 @@ module _ (schemas : Schemas) (lawful : AreLawful schemas) (admits : List ℕ →
             absurd (cc)
 
       -- what comes next isn't refused
-      pub not_refused : (message : ServerMessage) → BeginsWith (given_to n events) (came ++ message ∷ []) → take_fault held.client message ≡ None
+      pub not_refused : (message : ServerMessage) → BeginsWith (given_to n events) (came ++ message ∷ []) → take_fault state.client message ≡ None
       not_refused (reply.Connect hydration request protocol told diff clock readonly) b =
           let g = given_next n events came (reply.Connect hydration request protocol told diff clock readonly) b in
           connect_so g.before g.after (reply.Connect hydration request protocol told diff clock readonly) request g.is g.first refl
@@ -271,7 +271,7 @@ module _ (schemas : Schemas) (lawful : AreLawful schemas) (admits : List ℕ →
 
       -- the base of who took what came
       abbrev HasBase : Plan → ℤ → Type 0
-      HasBase plan reached = held.base ≡ whole_for schemas plan n (records_of (up_to reached (state_of schemas last events).history))
+      HasBase plan reached = state.base ≡ whole_for schemas plan n (records_of (up_to reached (state_of schemas last events).history))
 
       abbrev IsWithin : ℤ → Type 0
       IsWithin reached = (reached ≡ negsuc 0) ⊎ ((clock : ℕ) × (reached ≡ pos clock) × (clock ≤ length (state_of schemas last events).history))
@@ -280,20 +280,20 @@ module _ (schemas : Schemas) (lawful : AreLawful schemas) (admits : List ℕ →
         abbrev plan_told : Plan
         plan_told = plan_or (schemas.plan_for versions)
 
-        waits_so : came ≡ [] → held.client.reached ≡ negsuc 0 → HasBase plan_told held.client.reached × IsWithin held.client.reached
+        waits_so : came ≡ [] → state.client.reached ≡ negsuc 0 → HasBase plan_told state.client.reached × IsWithin state.client.reached
         waits_so none reached =
-            let e : rep [] (items ++ []) ≡ rep held.base (left ++ []) = subst (λ ms. fold (brings schemas admits) (rep [] (items ++ [])) ms ≡ rep held.base (left ++ [])) none (h.replica []) in
-            let base : [] ≡ held.base = ap (λ (r : Replica). r.base) e in
+            let e : rep [] (items ++ []) ≡ rep state.base (left ++ []) = subst (λ ms. fold (brings schemas admits) (rep [] (items ++ [])) ms ≡ rep state.base (left ++ [])) none (h.replica []) in
+            let base : [] ≡ state.base = ap (λ (r : Replica). r.base) e in
             (sym base ∙ sym (ap (λ z. whole_for schemas plan_told n (records_of (up_to z (state_of schemas last events).history))) reached), inl reached)
 
-        open_so : fold tells None came ≡ Some held.client.reached → HasBase plan_told held.client.reached × IsWithin held.client.reached
+        open_so : fold tells None came ≡ Some state.client.reached → HasBase plan_told state.client.reached × IsWithin state.client.reached
         open_so told =
             let c = cut n events came gives.0 gives.1 in
             let made : Legal schemas last (c.before ++ c.after) = subst (Legal schemas last) (sym c.is) legal in
             let made_before = legal_before schemas last c.before c.after made in
             let b = sent_before n events c.before c.after said c.is sends in
-            let at : told_up_to (events_of n c.before) ≡ Some held.client.reached = sym (told_is c.before c.first) ∙ told in
-            let within = told_bounded schemas last c.before n held.client.reached made_before at in
+            let at : told_up_to (events_of n c.before) ≡ Some state.client.reached = sym (told_is c.before c.first) ∙ told in
+            let within = told_bounded schemas last c.before n state.client.reached made_before at in
             let clock = within.0 in
             let old = (state_of schemas last c.before).history in
             let all = (state_of schemas last events).history in
@@ -301,19 +301,19 @@ module _ (schemas : Schemas) (lawful : AreLawful schemas) (admits : List ℕ →
             let less : clock ≤ length old = within.2 in
             let oldest_is : oldest clock old ≡ oldest clock all = ap (oldest clock) (sym grows) ∙ oldest_twice clock (length old) all less in
             let replica = client_follows schemas lawful last n (follower items) c.before clock made_before (follows c.before b) (at ∙ ap Some within.1) in
-            let base : held.base ≡ whole_for schemas plan_told n (records_of (oldest clock old)) = ap (λ (r : Replica). r.base) (sym (replica_is c.before c.first) ∙ replica) in
+            let base : state.base ≡ whole_for schemas plan_told n (records_of (oldest clock old)) = ap (λ (r : Replica). r.base) (sym (replica_is c.before c.first) ∙ replica) in
             let size : length old ≡ min (length old) (length all) = ap length (sym grows) ∙ length-oldest (length old) all in (
               base ∙ ap (λ m. whole_for schemas plan_told n (records_of m)) oldest_is ∙ sym (ap (λ z. whole_for schemas plan_told n (records_of (up_to z all))) within.1),
               inr (clock, within.1, (omega (arith, less, size))),
             )
 
-        by_where : (c : Connection) → IsWhere c items came held.client.reached → HasBase plan_told held.client.reached × IsWithin held.client.reached
+        by_where : (c : Connection) → IsWhere c items came state.client.reached → HasBase plan_told state.client.reached × IsWithin state.client.reached
         by_where Off w = absurd w
         by_where (Asking k) w = waits_so w.2 w.3
         by_where (Open k) w = open_so w
 
-        pub has_base : (plan : Plan) → schemas.plan_for versions ≡ Ok plan → HasBase plan held.client.reached
-        has_base plan planned = (by_where held.client.connection h.is_where).0 ∙ ap (λ p. whole_for schemas p n (records_of (up_to held.client.reached (state_of schemas last events).history))) (ap plan_or planned)
+        pub has_base : (plan : Plan) → schemas.plan_for versions ≡ Ok plan → HasBase plan state.client.reached
+        has_base plan planned = (by_where state.client.connection h.is_where).0 ∙ ap (λ p. whole_for schemas p n (records_of (up_to state.client.reached (state_of schemas last events).history))) (ap plan_or planned)
 
-        pub is_within : IsWithin held.client.reached
-        is_within = (by_where held.client.connection h.is_where).1
+        pub is_within : IsWithin state.client.reached
+        is_within = (by_where state.client.connection h.is_where).1

@@ -25,7 +25,7 @@ use Rattle.room_events.specs.Legal.{Legal, state_of}
 use Rattle.room_events.specs.declared.room_event.RoomEvent.{RoomEvent}
 use Rattle.side_effects.specs.declared.fault.EditFault.{EditFault}
 use Rattle.signal_core.specs.declared.watch.TheConstants.{MOST_WATCHES}
-use Rattle.sync_client.specs.Calls.{Held, after_message, asks}
+use Rattle.sync_client.specs.Calls.{ClientState, after_message, asks}
 use Rattle.sync_client.specs.Faults.{take_fault}
 use Rattle.sync_client.specs.Presences.{with_presence}
 use Rattle.sync_client.specs.declared.fault.TakeFault.{TakeFault}
@@ -41,32 +41,32 @@ use Rattle.join_laws.proofs.ServedLemmas.{not_refused, has_base, is_within}
 
 -- what a client does by itself
 
-adds_marks : (marks : Marks) (held : Held) → Adds held (with_marks marks held)
-adds_marks marks held = record { base = refl; connection = refl; reached = refl; of_version = refl; works = []; pending = sym (append-nil held.client.pending) }
+adds_marks : (marks : Marks) (state : ClientState) → Adds state (with_marks marks state)
+adds_marks marks state = record { base = refl; connection = refl; reached = refl; of_version = refl; works = []; pending = sym (append-nil state.client.pending) }
 
-adds_nothing : (held : Held) → Adds held held
-adds_nothing held = record { base = refl; connection = refl; reached = refl; of_version = refl; works = []; pending = sym (append-nil held.client.pending) }
+adds_nothing : (state : ClientState) → Adds state state
+adds_nothing state = record { base = refl; connection = refl; reached = refl; of_version = refl; works = []; pending = sym (append-nil state.client.pending) }
 
-adds_marked : (diff : RecordOps) (marks : Marks) (held : Held) → Adds held (with_marked diff marks held)
-adds_marked [] marks held = adds_marks marks held
-adds_marked (c ∷ diff) marks held = record { base = refl; connection = refl; reached = refl; of_version = refl; works = edit (c ∷ diff) ∷ []; pending = refl }
+adds_marked : (diff : RecordOps) (marks : Marks) (state : ClientState) → Adds state (with_marked diff marks state)
+adds_marked [] marks state = adds_marks marks state
+adds_marked (c ∷ diff) marks state = record { base = refl; connection = refl; reached = refl; of_version = refl; works = edit (c ∷ diff) ∷ []; pending = refl }
 
-adds_done : (done : RecordOps → Marks) (o : Option RecordOps) (held : Held) → Adds held (option_map_or (λ diff. with_marked diff (done diff) held) o held)
-adds_done done None held = adds_nothing held
-adds_done done (Some diff) held = adds_marked diff (done diff) held
+adds_done : (done : RecordOps → Marks) (o : Option RecordOps) (state : ClientState) → Adds state (option_map_or (λ diff. with_marked diff (done diff) state) o state)
+adds_done done None state = adds_nothing state
+adds_done done (Some diff) state = adds_marked diff (done diff) state
 
-adds_presence : (d : Data) (held : Held) → Adds held (record held { client = with_presence d held.client })
-adds_presence d held =
-    let set = record held.client { presence = Some d } in
-    elim (is_open held.client.connection) as (λ b. Adds held (record held { client = cond b (with_work (presence d) set) set })) [
+adds_presence : (d : Data) (state : ClientState) → Adds state (record state { client = with_presence d state.client })
+adds_presence d state =
+    let set = record state.client { presence = Some d } in
+    elim (is_open state.client.connection) as (λ b. Adds state (record state { client = cond b (with_work (presence d) set) set })) [
       | true ↦ record { base = refl; connection = refl; reached = refl; of_version = refl; works = presence d ∷ []; pending = refl }
-      | false ↦ record { base = refl; connection = refl; reached = refl; of_version = refl; works = []; pending = sym (append-nil held.client.pending) }
+      | false ↦ record { base = refl; connection = refl; reached = refl; of_version = refl; works = []; pending = sym (append-nil state.client.pending) }
     ]
 
 module _ (schemas : WorldSchemas EditFault) where
   -- what happens adds works
   abbrev OutcomeAdds : Joiner → Outcome → Type 0
-  OutcomeAdds joiner (Ok made) = Adds joiner.held made.joiner.held
+  OutcomeAdds joiner (Ok made) = Adds joiner.state made.joiner.state
   OutcomeAdds joiner (Err fault) = Unit {0}
 
   edits_add : (joiner : Joiner) (o : Result RecordOps EditFault) → OutcomeAdds joiner (on_completed schemas o joiner)
@@ -74,30 +74,30 @@ module _ (schemas : WorldSchemas EditFault) where
   edits_add joiner (Err fault) = tt
 
   presence_adds : (joiner : Joiner) (d : Data) (o : Option EditFault)
-      → OutcomeAdds joiner (option_map_or (λ fault. Err (Edit fault)) o (Ok (record { joiner = record joiner { held = record joiner.held { client = with_presence d joiner.held.client } }; lines = [] })))
-  presence_adds joiner d None = adds_presence d joiner.held
+      → OutcomeAdds joiner (option_map_or (λ fault. Err (Edit fault)) o (Ok (record { joiner = record joiner { state = record joiner.state { client = with_presence d joiner.state.client } }; lines = [] })))
+  presence_adds joiner d None = adds_presence d joiner.state
   presence_adds joiner d (Some fault) = tt
 
-  bail_adds : (joiner : Joiner) (o : Result (Unit {0}) BailFault) (held : Held) → Adds joiner.held held → OutcomeAdds joiner (bail_with o held joiner)
-  bail_adds joiner (Ok done) held h = h
-  bail_adds joiner (Err fault) held h = tt
+  bail_adds : (joiner : Joiner) (o : Result (Unit {0}) BailFault) (state : ClientState) → Adds joiner.state state → OutcomeAdds joiner (bail_with o state joiner)
+  bail_adds joiner (Ok done) state h = h
+  bail_adds joiner (Err fault) state h = tt
 
-  watch_adds : (joiner watching : Joiner) (b : Bool) → watching.held ≡ joiner.held → OutcomeAdds joiner (cond b (Err Limit) (Ok (record { joiner = watching; lines = [] })))
+  watch_adds : (joiner watching : Joiner) (b : Bool) → watching.state ≡ joiner.state → OutcomeAdds joiner (cond b (Err Limit) (Ok (record { joiner = watching; lines = [] })))
   watch_adds joiner watching true same = tt
-  watch_adds joiner watching false same = subst (Adds joiner.held) (sym same) (adds_nothing joiner.held)
+  watch_adds joiner watching false same = subst (Adds joiner.state) (sym same) (adds_nothing joiner.state)
 
   acts_add : (a : Act) (joiner : Joiner) → OutcomeAdds joiner (acts schemas a joiner)
-  acts_add (act.Edit diff) joiner = edits_add joiner (completion schemas joiner.held diff)
-  acts_add (act.Presence val) joiner = presence_adds joiner (data_of val) (refusal schemas joiner.held (data_of val))
-  acts_add (act.Mark name) joiner = adds_marks (after_mark name joiner.held.client.marks) joiner.held
-  acts_add act.Undo joiner = adds_done (λ diff. after_undo (back_of schemas joiner.held diff) joiner.held.client.marks) (undo_diff joiner.held.client.marks) joiner.held
-  acts_add act.Redo joiner = adds_done (λ diff. after_redo (back_of schemas joiner.held diff) joiner.held.client.marks) (redo_diff joiner.held.client.marks) joiner.held
+  acts_add (act.Edit diff) joiner = edits_add joiner (completion schemas joiner.state diff)
+  acts_add (act.Presence val) joiner = presence_adds joiner (data_of val) (refusal schemas joiner.state (data_of val))
+  acts_add (act.Mark name) joiner = adds_marks (after_mark name joiner.state.client.marks) joiner.state
+  acts_add act.Undo joiner = adds_done (λ diff. after_undo (back_of schemas joiner.state diff) joiner.state.client.marks) (undo_diff joiner.state.client.marks) joiner.state
+  acts_add act.Redo joiner = adds_done (λ diff. after_redo (back_of schemas joiner.state diff) joiner.state.client.marks) (redo_diff joiner.state.client.marks) joiner.state
   acts_add (act.Bail name) joiner =
-      bail_adds joiner (bail_done name joiner.held.client.marks) (bailed schemas name joiner.held)
-      (adds_done (λ diff. after_bail name joiner.held.client.marks) (bail_diff name joiner.held.client.marks) joiner.held)
+      bail_adds joiner (bail_done name joiner.state.client.marks) (bailed schemas name joiner.state)
+      (adds_done (λ diff. after_bail name joiner.state.client.marks) (bail_diff name joiner.state.client.marks) joiner.state)
   acts_add (act.Watch view) joiner = watch_adds joiner _ (nat_le MOST_WATCHES (length joiner.watched)) refl
-  acts_add (act.Query type query) joiner = adds_nothing joiner.held
-  acts_add act.Show joiner = adds_nothing joiner.held
+  acts_add (act.Query type query) joiner = adds_nothing joiner.state
+  acts_add act.Show joiner = adds_nothing joiner.state
 
 -- the messages among what was said
 
@@ -112,35 +112,35 @@ module _ (schemas : WorldSchemas EditFault) (version : ℕ) where
   -- a client took all that came so far, and fares so
   pub record GoesWell (way : Way) : Type 0 where
     pub taken : way.fault ≡ None
-    pub fares : Fares schemas.room admits (schemas.client version).versions version way.joiner.held (messages_in way.said) way.came
+    pub fares : Fares schemas.room admits (schemas.client version).versions version way.joiner.state (messages_in way.said) way.came
 
   first_well : (room : ℕ) → GoesWell (first_way schemas version room)
   first_well room = record { taken = refl; fares = fares_first schemas.room admits (schemas.client version).versions version (asks (schemas.client version).versions 0 (new_client version)) refl }
 
-  on_well : (joiner : Joiner) (way : Way) → way.fault ≡ None → Fares schemas.room admits (schemas.client version).versions version joiner.held (messages_in way.said) way.came
+  on_well : (joiner : Joiner) (way : Way) → way.fault ≡ None → Fares schemas.room admits (schemas.client version).versions version joiner.state (messages_in way.said) way.came
       → GoesWell (goes_on schemas joiner way)
   on_well joiner way none f =
-      let messages = (push_all joiner.held.client).messages in
+      let messages = (push_all joiner.state.client).messages in
       let said : messages_in (way.said ++ pushes schemas joiner) ≡ messages_in way.said ++ messages = filter_map-append message_in way.said (pushes schemas joiner) ∙ ap (λ ms. messages_in way.said ++ ms) (messages_said messages) in
       record {
         taken = none;
-        fares = subst (λ ms. Fares schemas.room admits (schemas.client version).versions version (after_pushes schemas joiner).held ms way.came) (sym said)
-            (fares_saying schemas.room admits (schemas.client version).versions version joiner.held (messages_in way.said) way.came f);
+        fares = subst (λ ms. Fares schemas.room admits (schemas.client version).versions version (after_pushes schemas joiner).state ms way.came) (sym said)
+            (fares_saying schemas.room admits (schemas.client version).versions version joiner.state (messages_in way.said) way.came f);
       }
 
   act_well : (way : Way) (o : Outcome) → OutcomeAdds schemas way.joiner o → GoesWell way → GoesWell (after_act schemas o way)
   act_well way (Ok made) adds g =
-      on_well made.joiner way g.taken (fares_adding schemas.room admits (schemas.client version).versions version (messages_in way.said) way.came way.joiner.held made.joiner.held adds g.fares)
+      on_well made.joiner way g.taken (fares_adding schemas.room admits (schemas.client version).versions version (messages_in way.said) way.came way.joiner.state made.joiner.state adds g.fares)
   act_well way (Err fault) adds g = g
 
-  taken_well : (way : Way) (message : ServerMessage) (waiting : Assembly) → take_fault way.joiner.held.client message ≡ None → GoesWell way
+  taken_well : (way : Way) (message : ServerMessage) (waiting : Assembly) → take_fault way.joiner.state.client message ≡ None → GoesWell way
       → GoesWell (after_coming schemas message None (record way.joiner { waiting = waiting }) way)
   taken_well way message waiting none g =
-      let held = way.joiner.held in
-      let f = fares_taking schemas.room admits (schemas.client version).versions version held (messages_in way.said) way.came message none g.fares in
-      let same : version ≡ held.client.version = sym g.fares.3.of_version in
+      let state = way.joiner.state in
+      let f = fares_taking schemas.room admits (schemas.client version).versions version state (messages_in way.said) way.came message none g.fares in
+      let same : version ≡ state.client.version = sym g.fares.3.of_version in
       on_well (with_message schemas message (record way.joiner { waiting = waiting })) (record way { came = way.came ++ message ∷ [] }) g.taken
-      (subst (λ v. Fares schemas.room admits (schemas.client version).versions version (after_message (schemas.client v).admits schemas.room.is_document held message) (messages_in way.said) (way.came ++ message ∷ [])) same f)
+      (subst (λ v. Fares schemas.room admits (schemas.client version).versions version (after_message (schemas.client v).admits schemas.room.is_document state message) (messages_in way.said) (way.came ++ message ∷ [])) same f)
 
   -- who didn't take a message stays
   stays : (way : Way) (fault : TakeFault) (steps : List Step) → way.fault ≡ Some fault → fold (after_step schemas) way steps ≡ way
@@ -150,10 +150,10 @@ module _ (schemas : WorldSchemas EditFault) (version : ℕ) where
 
   module _ (lawful : AreLawfulTogether schemas) (last : ℕ) (events : List RoomEvent) (number : ℕ) (legal : Legal schemas.room last events) where
     -- a client that is served takes what comes
-    comes_well : (way : Way) (message : ServerMessage) (waiting : Assembly) (fault : TakeFault) → GoesWell way → take_fault way.joiner.held.client message ≡ Some fault
+    comes_well : (way : Way) (message : ServerMessage) (waiting : Assembly) (fault : TakeFault) → GoesWell way → take_fault way.joiner.state.client message ≡ Some fault
         → Serves (events_of number events) (after_coming schemas message (Some fault) (record way.joiner { waiting = waiting }) way) → ⊥
     comes_well way message waiting fault g is serves =
-        let none = not_refused schemas.room lawful.room admits (schemas.client version).versions version (lawful.same version) last number g.fares.0 g.fares.1 g.fares.2 way.joiner.held
+        let none = not_refused schemas.room lawful.room admits (schemas.client version).versions version (lawful.same version) last number g.fares.0 g.fares.1 g.fares.2 way.joiner.state
         (messages_in way.said) way.came g.fares.3 events legal serves.said message serves.came in
         absurd (cc)
 
@@ -173,7 +173,7 @@ module _ (schemas : WorldSchemas EditFault) (version : ℕ) where
         subst (EndsWell steps) (stepped way (idles waiting) g.taken) (goes_well (goes_on schemas joiner way) steps (on_well joiner way g.taken g.fares))
     goes_well way (hears message waiting ∷ steps) g =
         let joiner = record way.joiner { waiting = waiting } in
-        subst (EndsWell steps) (stepped way (hears message waiting) g.taken) (elim (take_fault way.joiner.held.client message) as (λ o. take_fault way.joiner.held.client message ≡ o → EndsWell steps (after_coming schemas message o joiner way)) [
+        subst (EndsWell steps) (stepped way (hears message waiting) g.taken) (elim (take_fault way.joiner.state.client message) as (λ o. take_fault way.joiner.state.client message ≡ o → EndsWell steps (after_coming schemas message o joiner way)) [
           | None ↦ λ none. goes_well (after_coming schemas message None joiner way) steps (taken_well way message waiting none g)
           | Some fault ↦ λ is serves.
               let stopped = after_coming schemas message (Some fault) joiner way in
@@ -193,46 +193,46 @@ module _ (schemas : WorldSchemas EditFault) (version : ℕ) where
       all_taken = (way_well room steps serves).taken
 
       pub base_is : (plan : Plan) → schemas.room.plan_for (schemas.client version).versions ≡ Ok plan
-          → end.joiner.held.base ≡ whole_for schemas.room plan number (records_of (up_to end.joiner.held.client.reached (state_of schemas.room last events).history))
+          → end.joiner.state.base ≡ whole_for schemas.room plan number (records_of (up_to end.joiner.state.client.reached (state_of schemas.room last events).history))
       base_is plan planned =
           let f = (way_well room steps serves).fares in
-          has_base schemas.room lawful.room admits (schemas.client version).versions version (lawful.same version) last number f.0 f.1 f.2 end.joiner.held (messages_in end.said) end.came f.3 events legal
+          has_base schemas.room lawful.room admits (schemas.client version).versions version (lawful.same version) last number f.0 f.1 f.2 end.joiner.state (messages_in end.said) end.came f.3 events legal
           serves.said serves.came plan planned
 
-      pub reached_within : (end.joiner.held.client.reached ≡ negsuc 0) ⊎ ((clock : ℕ) × (end.joiner.held.client.reached ≡ pos clock) × (clock ≤ length (state_of schemas.room last events).history))
+      pub reached_within : (end.joiner.state.client.reached ≡ negsuc 0) ⊎ ((clock : ℕ) × (end.joiner.state.client.reached ≡ pos clock) × (clock ≤ length (state_of schemas.room last events).history))
       reached_within =
           let f = (way_well room steps serves).fares in
-          is_within schemas.room lawful.room admits (schemas.client version).versions version (lawful.same version) last number f.0 f.1 f.2 end.joiner.held (messages_in end.said) end.came f.3 events legal
+          is_within schemas.room lawful.room admits (schemas.client version).versions version (lawful.same version) last number f.0 f.1 f.2 end.joiner.state (messages_in end.said) end.came f.3 events legal
           serves.said serves.came
 
-      pub version_is : end.joiner.held.client.version ≡ version
+      pub version_is : end.joiner.state.client.version ≡ version
       version_is = (way_well room steps serves).fares.3.of_version
 
       -- in the words of clients
 
-      abbrev held : Held
-      held = end.joiner.held
+      abbrev state : ClientState
+      state = end.joiner.state
 
       abbrev history : History
       history = (state_of schemas.room last events).history
 
       module _ (plan : Plan) (planned : schemas.room.plan_for (schemas.client version).versions ≡ Ok plan) where
-        plan_is : plan_of schemas held.client ≡ Ok plan
+        plan_is : plan_of schemas state.client ≡ Ok plan
         plan_is = ap (λ v. schemas.room.plan_for (schemas.client v).versions) version_is ∙ planned
 
-        seen_is : (m : Pairs) → seen_along schemas.room plan m ≡ seen_by schemas (plan_of schemas held.client) m
+        seen_is : (m : Pairs) → seen_along schemas.room plan m ≡ seen_by schemas (plan_of schemas state.client) m
         seen_is m = sym (ap (λ o. seen_by schemas o m) plan_is)
 
-        pub document_is : doc schemas.room held.base ≡ base_of schemas history held.client
+        pub document_is : doc schemas.room state.base ≡ base_of schemas history state.client
         document_is =
-            let reached = up_to held.client.reached history in
+            let reached = up_to state.client.reached history in
             ap (doc schemas.room) (base_is plan planned) ∙ whole_document schemas.room lawful.room plan number (records_of reached) (rising-records reached) ∙ seen_is (doc schemas.room (records_of reached))
 
-        pub presence_is : pres schemas.room held.base ≡ others_by schemas history held.client (Open number)
+        pub presence_is : pres schemas.room state.base ≡ others_by schemas history state.client (Open number)
         presence_is =
-            let reached = up_to held.client.reached history in
+            let reached = up_to state.client.reached history in
             ap (pres schemas.room) (base_is plan planned) ∙ whole_presence schemas.room lawful.room plan number (records_of reached) (rising-records reached)
             ∙ seen_is (others_of schemas.room number (records_of reached))
 
-        pub shown_is : shown schemas held ≡ shown_document schemas history held.client
-        shown_is = ap (λ document. replay (schema_of schemas held.client).admits document (pending_diffs held.client)) document_is
+        pub shown_is : shown schemas state ≡ shown_document schemas history state.client
+        shown_is = ap (λ document. replay (schema_of schemas state.client).admits document (pending_diffs state.client)) document_is

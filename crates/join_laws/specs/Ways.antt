@@ -60,7 +60,7 @@ module _ (schemas : WorldSchemas EditFault) where
   -- the step of a client that took all messages so far
   abbrev pub step_on : Step → Way → Way
   step_on (does act) way = after_act (acts schemas act way.joiner) way
-  step_on (hears message waiting) way = after_coming message (take_fault way.joiner.held.client message) (record way.joiner { waiting = waiting }) way
+  step_on (hears message waiting) way = after_coming message (take_fault way.joiner.state.client message) (record way.joiner { waiting = waiting }) way
   step_on (idles waiting) way = goes_on (record way.joiner { waiting = waiting }) way
 
   -- a step; who didn't take a message makes none

@@ -40,11 +40,11 @@ pub fn goes_its_way_by_a_script()
         → AreLawfulTogether schemas → Legal schemas.room last events
         → Leads schemas room script coming (Some joiner) said left → joiner.is_lost ≡ false
         → ServesOver (events_of number events) coming said
-        → let held = joiner.held in
+        → let state = joiner.state in
         let history = (state_of schemas.room last events).history in
-        schemas.room.plan_for (schemas.client held.client.version).versions ≡ Ok plan
-        → held.base
-        ≡ whole_for schemas.room plan number (records_of (up_to held.client.reached history)) }
+        schemas.room.plan_for (schemas.client state.client.version).versions ≡ Ok plan
+        → state.base
+        ≡ whole_for schemas.room plan number (records_of (up_to state.client.reached history)) }
     ensures ends { (schemas : WorldSchemas EditFault) (room : ℕ) (script : List ℕ)
         (coming : List Arrival) (all : Played)
         → Joins schemas room script coming all

@@ -35,43 +35,43 @@ pub fn has_the_rooms_base()
         → AreLawfulTogether schemas → Legal schemas.room last events
         → schemas.room.plan_for (schemas.client version).versions ≡ Ok plan
         → let way = way_of schemas version room steps in
-        let held = way.joiner.held in
+        let state = way.joiner.state in
         let history = (state_of schemas.room last events).history in
         Serves (events_of number events) way
-        → held.base
-        ≡ whole_for schemas.room plan number (records_of (up_to held.client.reached history)) }
+        → state.base
+        ≡ whole_for schemas.room plan number (records_of (up_to state.client.reached history)) }
     ensures document { (schemas : WorldSchemas EditFault) (version room : ℕ) (steps : List Step)
         (last : ℕ) (events : List RoomEvent) (number : ℕ) (plan : Plan)
         → AreLawfulTogether schemas → Legal schemas.room last events
         → schemas.room.plan_for (schemas.client version).versions ≡ Ok plan
         → let way = way_of schemas version room steps in
-        let held = way.joiner.held in
+        let state = way.joiner.state in
         let history = (state_of schemas.room last events).history in
         Serves (events_of number events) way
-        → doc schemas.room held.base ≡ base_of schemas history held.client }
+        → doc schemas.room state.base ≡ base_of schemas history state.client }
     ensures presence { (schemas : WorldSchemas EditFault) (version room : ℕ) (steps : List Step)
         (last : ℕ) (events : List RoomEvent) (number : ℕ) (plan : Plan)
         → AreLawfulTogether schemas → Legal schemas.room last events
         → schemas.room.plan_for (schemas.client version).versions ≡ Ok plan
         → let way = way_of schemas version room steps in
-        let held = way.joiner.held in
+        let state = way.joiner.state in
         let history = (state_of schemas.room last events).history in
         Serves (events_of number events) way
-        → pres schemas.room held.base ≡ others_by schemas history held.client (Open number) }
+        → pres schemas.room state.base ≡ others_by schemas history state.client (Open number) }
     ensures shows { (schemas : WorldSchemas EditFault) (version room : ℕ) (steps : List Step)
         (last : ℕ) (events : List RoomEvent) (number : ℕ) (plan : Plan)
         → AreLawfulTogether schemas → Legal schemas.room last events
         → schemas.room.plan_for (schemas.client version).versions ≡ Ok plan
         → let way = way_of schemas version room steps in
-        let held = way.joiner.held in
+        let state = way.joiner.state in
         let history = (state_of schemas.room last events).history in
         Serves (events_of number events) way
-        → shown schemas held ≡ shown_document schemas history held.client }
+        → shown schemas state ≡ shown_document schemas history state.client }
     ensures clock { (schemas : WorldSchemas EditFault) (version room : ℕ) (steps : List Step)
         (last : ℕ) (events : List RoomEvent) (number : ℕ)
         → AreLawfulTogether schemas → Legal schemas.room last events
         → let way = way_of schemas version room steps in
-        let reached = way.joiner.held.client.reached in
+        let reached = way.joiner.state.client.reached in
         Serves (events_of number events) way
         → (reached ≡ negsuc 0)
         ⊎ ((clock : ℕ) × (reached ≡ pos clock)

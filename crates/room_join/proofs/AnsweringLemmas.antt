@@ -14,7 +14,7 @@ use Rattle.room_model.specs.declared.fault.ConnectFault.{ConnectFault}
 use Rattle.room_model.specs.declared.fault.StepFault.TheVariants.{Edit, NoMark}
 use Rattle.side_effects.specs.declared.fault.EditFault.{EditFault}
 use Rattle.side_effects.specs.declared.fault.EditFault.TheVariants as edit_fault
-use Rattle.sync_client.specs.Calls.{Held, asking}
+use Rattle.sync_client.specs.Calls.{ClientState, asking}
 use Rattle.sync_client.specs.Presences.{with_presence}
 use Rattle.sync_msgs.specs.declared.client_message.ClientMessage.{ClientMessage}
 use Rattle.sync_peer.specs.Calls.{completion, refusal, done_by, done_unless, edited}
@@ -46,9 +46,9 @@ is_no_want fault text is want = absurd (let none : edit_fault_text edit_fault.Ou
 
 module _ (schemas : WorldSchemas EditFault) (joiner : model.Joiner) (code : Joiner) (stands : Stands schemas joiner code) (after : Peer) where
   -- the client became another one
-  pub changed : (held : Held) → peer_of.Stands schemas held after → WatchAlike (store_of code.peer) (store_of after)
-      → Stands schemas (record joiner { held = held }) (record code { peer = after })
-  changed held is alike = record {
+  pub changed : (state : ClientState) → peer_of.Stands schemas state after → WatchAlike (store_of code.peer) (store_of after)
+      → Stands schemas (record joiner { state = state }) (record code { peer = after })
+  changed state is alike = record {
     peer = is;
     watched = subst (λ ws. Stand ws (map Some joiner.watched)) (sym alike.watches) stands.watched;
     closed = alike.begun ∙ stands.closed;
@@ -57,69 +57,69 @@ module _ (schemas : WorldSchemas EditFault) (joiner : model.Joiner) (code : Join
   }
 
   -- the client pushed all that it can
-  pub pushed_so : peer_of.Stands schemas (record joiner.held { client = (push_all joiner.held.client).client }) after → WatchAlike (store_of code.peer) (store_of after)
+  pub pushed_so : peer_of.Stands schemas (record joiner.state { client = (push_all joiner.state.client).client }) after → WatchAlike (store_of code.peer) (store_of after)
       → Stands schemas (after_pushes schemas joiner) (record code { peer = after })
-  pushed_so is alike = changed (record joiner.held { client = (push_all joiner.held.client).client }) is alike
+  pushed_so is alike = changed (record joiner.state { client = (push_all joiner.state.client).client }) is alike
 
   module _ (alike : WatchAlike (store_of code.peer) (store_of after)) (lines : Vec JoinLine) where
     -- an event happened
-    pub answers_with : (held : Held) (own : List JoinLine) → peer_of.Stands schemas held after → lines.items ≡ own
-        → Answers schemas (happens own held joiner) (Ok lines) (record code { peer = after })
-    answers_with held own is are = (record { joiner = record joiner { held = held }; lines = own }, refl, are, changed held is alike)
+    pub answers_with : (state : ClientState) (own : List JoinLine) → peer_of.Stands schemas state after → lines.items ≡ own
+        → Answers schemas (happens own state joiner) (Ok lines) (record code { peer = after })
+    answers_with state own is are = (record { joiner = record joiner { state = state }; lines = own }, refl, are, changed state is alike)
 
     -- an edit was done
-    pub edit_done : (wanted : RecordOps) → Edits schemas joiner.held (completion schemas joiner.held wanted) after → lines.items ≡ []
+    pub edit_done : (wanted : RecordOps) → Edits schemas joiner.state (completion schemas joiner.state wanted) after → lines.items ≡ []
         → Answers schemas (on_edit schemas wanted joiner) (Ok lines) (record code { peer = after })
     edit_done wanted edits none =
-        elim (completion schemas joiner.held wanted) as (λ o. Edits schemas joiner.held o after → Answers schemas (on_completed schemas o joiner) (Ok lines) (record code { peer = after })) [
-          | Ok diff ↦ λ is. (record { joiner = record joiner { held = edited schemas diff joiner.held }; lines = [] }, refl, none, changed (edited schemas diff joiner.held) is alike)
+        elim (completion schemas joiner.state wanted) as (λ o. Edits schemas joiner.state o after → Answers schemas (on_completed schemas o joiner) (Ok lines) (record code { peer = after })) [
+          | Ok diff ↦ λ is. (record { joiner = record joiner { state = edited schemas diff joiner.state }; lines = [] }, refl, none, changed (edited schemas diff joiner.state) is alike)
           | Err fault ↦ λ is. absurd is
         ] edits
 
     -- a presence was set
-    pub presence_done : (d : Data) → done_unless (refusal schemas joiner.held d) ≡ Ok tt
-        → peer_of.Stands schemas (record joiner.held { client = with_presence d joiner.held.client }) after → lines.items ≡ []
+    pub presence_done : (d : Data) → done_unless (refusal schemas joiner.state d) ≡ Ok tt
+        → peer_of.Stands schemas (record joiner.state { client = with_presence d joiner.state.client }) after → lines.items ≡ []
         → Answers schemas (on_presence schemas d joiner) (Ok lines) (record code { peer = after })
     presence_done d fine is none =
-        let held : Held = record joiner.held { client = with_presence d joiner.held.client } in
-        let made : Acted = record { joiner = record joiner { held = held }; lines = [] } in
-        elim (refusal schemas joiner.held d) as (λ o. done_unless o ≡ Ok tt
+        let state : ClientState = record joiner.state { client = with_presence d joiner.state.client } in
+        let made : Acted = record { joiner = record joiner { state = state }; lines = [] } in
+        elim (refusal schemas joiner.state d) as (λ o. done_unless o ≡ Ok tt
         → Answers schemas (option_map_or (λ fault. Err (Edit fault)) o (Ok made)) (Ok lines) (record code { peer = after })) [
-          | None ↦ λ same. (made, refl, none, changed held is alike)
+          | None ↦ λ same. (made, refl, none, changed state is alike)
           | Some fault ↦ λ same. absurd (cc)
         ] fine
 
     -- a bail was done
-    pub bail_is_done : (name : List ℕ) (done : Result (Unit {0}) BailFault) (held : Held) → done ≡ Ok tt → peer_of.Stands schemas held after → lines.items ≡ []
-        → Answers schemas (bail_with done held joiner) (Ok lines) (record code { peer = after })
-    bail_is_done name done held fine is none = subst (λ o. Answers schemas (bail_with o held joiner) (Ok lines) (record code { peer = after })) (sym fine) (answers_with held [] is none)
+    pub bail_is_done : (name : List ℕ) (done : Result (Unit {0}) BailFault) (state : ClientState) → done ≡ Ok tt → peer_of.Stands schemas state after → lines.items ≡ []
+        → Answers schemas (bail_with done state joiner) (Ok lines) (record code { peer = after })
+    bail_is_done name done state fine is none = subst (λ o. Answers schemas (bail_with o state joiner) (Ok lines) (record code { peer = after })) (sym fine) (answers_with state [] is none)
 
 -- an edit is refused
 pub edit_refused : (schemas : WorldSchemas EditFault) (joiner : model.Joiner) (code : Joiner) (wanted : RecordOps) (fault : EditFault) (text : List ℕ)
-    → ((fault ≡ edit_fault.OutOfMemory → ⊥) → done_by (completion schemas joiner.held wanted) ≡ Err fault) → edit_fault_text fault ≡ Some text
+    → ((fault ≡ edit_fault.OutOfMemory → ⊥) → done_by (completion schemas joiner.state wanted) ≡ Err fault) → edit_fault_text fault ≡ Some text
     → Answers schemas (on_edit schemas wanted joiner) (Err text) code
 edit_refused schemas joiner code wanted fault text refuses is =
-    elim (completion schemas joiner.held wanted) as (λ o. done_by o ≡ Err fault → Answers schemas (on_completed schemas o joiner) (Err text) code) [
+    elim (completion schemas joiner.state wanted) as (λ o. done_by o ≡ Err fault → Answers schemas (on_completed schemas o joiner) (Err text) code) [
       | Ok diff ↦ λ same. absurd (cc)
       | Err other ↦ λ same. let it : other ≡ fault = cc in (Edit fault, ap (λ f. Err (Edit f)) it, is)
     ] (refuses (is_no_want fault text is))
 
 -- a presence is refused
 pub presence_refused : (schemas : WorldSchemas EditFault) (joiner : model.Joiner) (code : Joiner) (d : Data) (fault : EditFault) (text : List ℕ)
-    → ((fault ≡ edit_fault.OutOfMemory → ⊥) → done_unless (refusal schemas joiner.held d) ≡ Err fault) → edit_fault_text fault ≡ Some text
+    → ((fault ≡ edit_fault.OutOfMemory → ⊥) → done_unless (refusal schemas joiner.state d) ≡ Err fault) → edit_fault_text fault ≡ Some text
     → Answers schemas (on_presence schemas d joiner) (Err text) code
 presence_refused schemas joiner code d fault text refuses is =
-    let held : Held = record joiner.held { client = with_presence d joiner.held.client } in
-    let made : Acted = record { joiner = record joiner { held = held }; lines = [] } in
-    elim (refusal schemas joiner.held d) as (λ o. done_unless o ≡ Err fault → Answers schemas (option_map_or (λ fault. Err (Edit fault)) o (Ok made)) (Err text) code) [
+    let state : ClientState = record joiner.state { client = with_presence d joiner.state.client } in
+    let made : Acted = record { joiner = record joiner { state = state }; lines = [] } in
+    elim (refusal schemas joiner.state d) as (λ o. done_unless o ≡ Err fault → Answers schemas (option_map_or (λ fault. Err (Edit fault)) o (Ok made)) (Err text) code) [
       | None ↦ λ same. absurd (cc)
       | Some other ↦ λ same. let it : other ≡ fault = cc in (Edit fault, ap (λ f. Err (Edit f)) it, is)
     ] (refuses (is_no_want fault text is))
 
 -- a bail finds no mark
-pub bail_refused : (schemas : WorldSchemas EditFault) (joiner : model.Joiner) (code : Joiner) (done : Result (Unit {0}) BailFault) (held : Held) (text : List ℕ)
-    → done ≡ Err bail.NoMark → step_fault_text NoMark ≡ Some text → Answers schemas (bail_with done held joiner) (Err text) code
-bail_refused schemas joiner code done held text refuses is = (NoMark, ap (λ o. bail_with o held joiner) refuses, is)
+pub bail_refused : (schemas : WorldSchemas EditFault) (joiner : model.Joiner) (code : Joiner) (done : Result (Unit {0}) BailFault) (state : ClientState) (text : List ℕ)
+    → done ≡ Err bail.NoMark → step_fault_text NoMark ≡ Some text → Answers schemas (bail_with done state joiner) (Err text) code
+bail_refused schemas joiner code done state text refuses is = (NoMark, ap (λ o. bail_with o state joiner) refuses, is)
 
 -- a client that has asked, over a store that nobody watches
 pub begun_stands : (schemas : WorldSchemas EditFault) (version : ℕ) (before peer : Peer)

@@ -37,34 +37,34 @@ answer_by o = option_map_or (λ fault. Err fault) o (Ok tt)
 module _ (schemas : WorldSchemas EditFault) (joiner : model.Joiner) (code : Joiner) (stands : Stands schemas joiner code) where
   -- a message was taken
   pub message_taken : (message : ServerMessage) (after : Peer) (lines : Vec JoinLine)
-      → answer_by (take_fault joiner.held.client message) ≡ Ok tt
-      → peer_of.Stands schemas (with_message schemas message joiner).held after → WatchAlike (store_of code.peer) (store_of after) → lines.items ≡ []
+      → answer_by (take_fault joiner.state.client message) ≡ Ok tt
+      → peer_of.Stands schemas (with_message schemas message joiner).state after → WatchAlike (store_of code.peer) (store_of after) → lines.items ≡ []
       → Heeds schemas joiner (heard.Message message) (Ok lines) (record code { peer = after })
   message_taken message after lines fine is alike none =
       let made : Acted = record { joiner = with_message schemas message joiner; lines = [] } in
-      elim (take_fault joiner.held.client message) as (λ o. answer_by o ≡ Ok tt
+      elim (take_fault joiner.state.client message) as (λ o. answer_by o ≡ Ok tt
       → (one : Acted) × (option_map_or (λ fault. Err (take_fault_text fault)) o (Ok made) ≡ Ok one) × (lines.items ≡ one.lines) × Stands schemas one.joiner (record code { peer = after })) [
-        | None ↦ λ same. (made, refl, none, changed schemas joiner code stands after (with_message schemas message joiner).held is alike)
+        | None ↦ λ same. (made, refl, none, changed schemas joiner code stands after (with_message schemas message joiner).state is alike)
         | Some fault ↦ λ same. absurd (cc)
       ] fine
 
   -- a message isn't taken
   pub message_refused : (message : ServerMessage) (fault : TakeFault) (text : List ℕ) (after : Joiner)
-      → ((fault ≡ fault_is.OutOfMemory → ⊥) → answer_by (take_fault joiner.held.client message) ≡ Err fault) → take_fault_text fault ≡ Some text
+      → ((fault ≡ fault_is.OutOfMemory → ⊥) → answer_by (take_fault joiner.state.client message) ≡ Err fault) → take_fault_text fault ≡ Some text
       → Heeds schemas joiner (heard.Message message) (Err text) after
   message_refused message fault text after refuses is =
       let made : Acted = record { joiner = with_message schemas message joiner; lines = [] } in
-      elim (take_fault joiner.held.client message) as (λ o. answer_by o ≡ Err fault
+      elim (take_fault joiner.state.client message) as (λ o. answer_by o ≡ Err fault
       → option_map_or (λ fault. Err (take_fault_text fault)) o (Ok made) ≡ Err (Some text)) [
         | None ↦ λ same. absurd (cc)
         | Some other ↦ λ same. let it : other ≡ fault = cc in ap (λ f. Err (take_fault_text f)) it ∙ ap (λ o. Err o) is
       ] (refuses (no_want fault text is))
 
   -- the link has ended
-  pub end_heard : (after : Peer) → peer_of.Stands schemas (with_end schemas joiner).held after → store_of after ≡ store_of code.peer
+  pub end_heard : (after : Peer) → peer_of.Stands schemas (with_end schemas joiner).state after → store_of after ≡ store_of code.peer
       → Stands schemas (with_end schemas joiner) (record code { peer = after; is_lost = true })
   end_heard after is same =
-      let kept = changed schemas joiner code stands after (with_end schemas joiner).held is (watch_same (store_of code.peer) (store_of after) same) in
+      let kept = changed schemas joiner code stands after (with_end schemas joiner).state is (watch_same (store_of code.peer) (store_of after) same) in
       record { peer = kept.peer; watched = kept.watched; closed = kept.closed; waiting = kept.waiting; lost = refl }
 
   -- what came of a message waits

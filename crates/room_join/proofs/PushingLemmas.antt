@@ -10,7 +10,7 @@ use Rattle.room_model.specs.Replicas.{Client, Pushing, push_none, push_of, push_
 use Rattle.room_model.specs.declared.limits.TheConstants.{MOST_PUSHES}
 use Rattle.side_effects.specs.declared.fault.EditFault.{EditFault}
 use Rattle.sync_msgs.specs.declared.client_message.ClientMessage.{ClientMessage}
-use Rattle.sync_client.specs.Calls.{Held, pushed}
+use Rattle.sync_client.specs.Calls.{ClientState, pushed}
 use Rattle.sync_peer.specs.Standing as peer_of
 use Rattle.sync_peer.specs.declared.peer.Peer.{Peer}
 
@@ -36,29 +36,29 @@ pushes_once c p is =
     ] is
 
 -- so many pushes may follow; what a client that it stood for pushes in all is what it pushed, and what it pushes from here on
-pub record IsPushing (schemas : WorldSchemas EditFault) (held : Held) (all left : ℕ) (said : List Saying) (peer : Peer) : Type 0 where
+pub record IsPushing (schemas : WorldSchemas EditFault) (state : ClientState) (all left : ℕ) (said : List Saying) (peer : Peer) : Type 0 where
   pub client : Client
   pub messages : List ClientMessage
   pub are : said ≡ map say.Message messages
-  pub stands : peer_of.Stands schemas (record held { client = client }) peer
-  pub rest : push_times all held.client ≡ after_those messages (push_times left client)
+  pub stands : peer_of.Stands schemas (record state { client = client }) peer
+  pub rest : push_times all state.client ≡ after_those messages (push_times left client)
 
 -- all that it can push is said, and it stands for who pushed it
-abbrev pub SaysAll : WorldSchemas EditFault → Held → ℕ → List Saying → Peer → Type 0
-SaysAll schemas held n said peer =
-    (said ≡ map say.Message (push_times n held.client).messages) × peer_of.Stands schemas (record held { client = (push_times n held.client).client }) peer
+abbrev pub SaysAll : WorldSchemas EditFault → ClientState → ℕ → List Saying → Peer → Type 0
+SaysAll schemas state n said peer =
+    (said ≡ map say.Message (push_times n state.client).messages) × peer_of.Stands schemas (record state { client = (push_times n state.client).client }) peer
 
-module _ (schemas : WorldSchemas EditFault) (held : Held) (all : ℕ) where
-  pub pushing_begins : (peer : Peer) → peer_of.Stands schemas held peer → IsPushing schemas held all all [] peer
-  pushing_begins peer stands = record { client = held.client; messages = []; are = refl; stands = stands; rest = refl }
+module _ (schemas : WorldSchemas EditFault) (state : ClientState) (all : ℕ) where
+  pub pushing_begins : (peer : Peer) → peer_of.Stands schemas state peer → IsPushing schemas state all all [] peer
+  pushing_begins peer stands = record { client = state.client; messages = []; are = refl; stands = stands; rest = refl }
 
-  module _ (left : ℕ) (said : List Saying) (before after : Peer) (h : IsPushing schemas held all left said before) where
+  module _ (left : ℕ) (said : List Saying) (before after : Peer) (h : IsPushing schemas state all left said before) where
     -- one more
     pub pushing_goes_on : (less : ℕ) (message : ClientMessage) → left ≡ suc less → message ∷ [] ≡ (pushed h.client).messages
-        → peer_of.Stands schemas (record held { client = (pushed h.client).client }) after → IsPushing schemas held all less (said ++ say.Message message ∷ []) after
+        → peer_of.Stands schemas (record state { client = (pushed h.client).client }) after → IsPushing schemas state all less (said ++ say.Message message ∷ []) after
     pushing_goes_on less message more says stands =
         elim (next_push h.client) as (λ o. next_push h.client ≡ o → message ∷ [] ≡ (unwrap_or o (push_none h.client)).messages
-        → peer_of.Stands schemas (record held { client = (unwrap_or o (push_none h.client)).client }) after → IsPushing schemas held all less (said ++ say.Message message ∷ []) after) [
+        → peer_of.Stands schemas (record state { client = (unwrap_or o (push_none h.client)).client }) after → IsPushing schemas state all less (said ++ say.Message message ∷ []) after) [
           | None ↦ λ is none stands. absurd (cc)
           | Some one ↦ λ is same stands. record {
             client = one.client;
@@ -73,21 +73,21 @@ module _ (schemas : WorldSchemas EditFault) (held : Held) (all : ℕ) where
         ] refl says stands
 
     -- no more
-    pub pushing_ends : [] ≡ (pushed h.client).messages → peer_of.Stands schemas (record held { client = (pushed h.client).client }) after → SaysAll schemas held all said after
+    pub pushing_ends : [] ≡ (pushed h.client).messages → peer_of.Stands schemas (record state { client = (pushed h.client).client }) after → SaysAll schemas state all said after
     pushing_ends none stands =
         elim (next_push h.client) as (λ o. next_push h.client ≡ o → [] ≡ (unwrap_or o (push_none h.client)).messages
-        → peer_of.Stands schemas (record held { client = (unwrap_or o (push_none h.client)).client }) after → SaysAll schemas held all said after) [
+        → peer_of.Stands schemas (record state { client = (unwrap_or o (push_none h.client)).client }) after → SaysAll schemas state all said after) [
           | None ↦ λ is same stands.
-              let all_is : push_times all held.client ≡ after_those h.messages (push_none h.client) = h.rest ∙ ap (after_those h.messages) (pushed_none left h.client is) in (
+              let all_is : push_times all state.client ≡ after_those h.messages (push_none h.client) = h.rest ∙ ap (after_those h.messages) (pushed_none left h.client is) in (
                 h.are ∙ ap (map say.Message) (sym (ap (λ (p : Pushing). p.messages) all_is ∙ append-nil h.messages)),
-                subst (λ (p : Pushing). peer_of.Stands schemas (record held { client = p.client }) after) (sym all_is) stands,
+                subst (λ (p : Pushing). peer_of.Stands schemas (record state { client = p.client }) after) (sym all_is) stands,
               )
           | Some one ↦ λ is same stands. let h2 = pushes_once h.client one is in absurd (let clash : [] ≡ h2.0 ∷ [] = same ∙ h2.1 in cc)
         ] refl none stands
 
   -- all were pushed
-  pub pushing_done : (said : List Saying) (peer : Peer) → IsPushing schemas held all 0 said peer → SaysAll schemas held all said peer
+  pub pushing_done : (said : List Saying) (peer : Peer) → IsPushing schemas state all 0 said peer → SaysAll schemas state all said peer
   pushing_done said peer h = (
     h.are ∙ ap (map say.Message) (sym (ap (λ (p : Pushing). p.messages) h.rest ∙ append-nil h.messages)),
-    subst (λ (p : Pushing). peer_of.Stands schemas (record held { client = p.client }) peer) (sym h.rest) h.stands,
+    subst (λ (p : Pushing). peer_of.Stands schemas (record state { client = p.client }) peer) (sym h.rest) h.stands,
   )

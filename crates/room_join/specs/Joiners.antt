@@ -24,7 +24,7 @@ use Rattle.shape_tree.specs.declared.query.Query.{Query}
 use Rattle.shape_tree.specs.declared.view.View.{View}
 use Rattle.side_effects.specs.declared.fault.EditFault.{EditFault}
 use Rattle.signal_core.specs.declared.watch.TheConstants.{MOST_WATCHES}
-use Rattle.sync_client.specs.Calls.{Held, asking, asks, after_message}
+use Rattle.sync_client.specs.Calls.{ClientState, asking, asks, after_message}
 use Rattle.sync_client.specs.Faults.{take_fault}
 use Rattle.sync_client.specs.Presences.{with_presence}
 use Rattle.sync_msgs.specs.declared.server_message.ServerMessage.{ServerMessage}
@@ -40,7 +40,7 @@ use Rattle.room_join.specs.declared.act.Act.TheVariants as act
 -- a client that has joined
 pub record Joiner : Type 0 where
   -- the client, with its base
-  pub held : Held
+  pub state : ClientState
   -- the views that it watches by number, each with what was last told of it
   pub watched : List Watched
   -- what came of a message that isn't whole
@@ -51,7 +51,7 @@ pub record Joiner : Type 0 where
 -- a client of a version that has asked to be connected, in its request of number 0, and did nothing else
 abbrev pub new_joiner : ℕ → Joiner
 new_joiner version = record {
-  held = record { base = []; client = asking 0 (new_client version) };
+  state = record { base = []; client = asking 0 (new_client version) };
   watched = [];
   waiting = empty LONGEST_REPLY;
   is_lost = false;
@@ -67,13 +67,13 @@ abbrev pub Outcome : Type 0
 Outcome = Result Acted (StepFault EditFault)
 
 -- the event happens, prints these lines, and makes this of the client with its base
-abbrev pub happens : List JoinLine → Held → Joiner → Outcome
-happens lines held joiner = Ok (record { joiner = record joiner { held = held }; lines = lines })
+abbrev pub happens : List JoinLine → ClientState → Joiner → Outcome
+happens lines state joiner = Ok (record { joiner = record joiner { state = state }; lines = lines })
 
 -- a bail finds its mark, and makes this of the client with its base; or it doesn't
-abbrev pub bail_with : Result (Unit {0}) BailFault → Held → Joiner → Outcome
-bail_with (Ok done) held joiner = happens [] held joiner
-bail_with (Err fault) held joiner = Err NoMark
+abbrev pub bail_with : Result (Unit {0}) BailFault → ClientState → Joiner → Outcome
+bail_with (Ok done) state joiner = happens [] state joiner
+bail_with (Err fault) state joiner = Err NoMark
 
 -- a line that recordings print too
 abbrev pub out_line : OutLine → JoinLine
@@ -81,7 +81,7 @@ out_line l = line.Printed (printed.World l)
 
 -- the line at the end of a script: the clock that was reached, and how many works are pending
 abbrev pub end_line : Joiner → JoinLine
-end_line joiner = line.End joiner.held.client.reached (length joiner.held.client.pending)
+end_line joiner = line.End joiner.state.client.reached (length joiner.state.client.pending)
 
 -- a client that watches a further view, of which nothing was told
 abbrev pub with_watch : View → Joiner → Joiner
@@ -99,47 +99,47 @@ told_line told = line.Printed (printed.Told 0 (val_of told.1) told.0)
 
 -- a client makes a mark
 abbrev pub on_mark : List ℕ → Joiner → Outcome
-on_mark name joiner = happens [] (with_marks (after_mark name joiner.held.client.marks) joiner.held) joiner
+on_mark name joiner = happens [] (with_marks (after_mark name joiner.state.client.marks) joiner.state) joiner
 
 module _ (schemas : WorldSchemas EditFault) where
   -- an edit of what the client shows is done as it was completed, or refused
   abbrev pub on_completed : Result RecordOps EditFault → Joiner → Outcome
-  on_completed (Ok diff) joiner = happens [] (edited schemas diff joiner.held) joiner
+  on_completed (Ok diff) joiner = happens [] (edited schemas diff joiner.state) joiner
   on_completed (Err fault) joiner = Err (Edit fault)
 
   -- a client edits what it shows
   abbrev pub on_edit : RecordOps → Joiner → Outcome
-  on_edit wanted joiner = on_completed (completion schemas joiner.held wanted) joiner
+  on_edit wanted joiner = on_completed (completion schemas joiner.state wanted) joiner
 
   -- a client sets its presence
   abbrev pub on_presence : Data → Joiner → Outcome
   on_presence d joiner =
-      option_map_or (λ fault. Err (Edit fault)) (refusal schemas joiner.held d)
-      (happens [] (record joiner.held { client = with_presence d joiner.held.client }) joiner)
+      option_map_or (λ fault. Err (Edit fault)) (refusal schemas joiner.state d)
+      (happens [] (record joiner.state { client = with_presence d joiner.state.client }) joiner)
 
   -- a client takes its edits back to its last mark
   abbrev pub on_undo : Joiner → Outcome
-  on_undo joiner = happens (out_line (out.Undo 0 (is_some (undo_diff joiner.held.client.marks))) ∷ []) (undone schemas joiner.held) joiner
+  on_undo joiner = happens (out_line (out.Undo 0 (is_some (undo_diff joiner.state.client.marks))) ∷ []) (undone schemas joiner.state) joiner
 
   -- a client does again what it took back last
   abbrev pub on_redo : Joiner → Outcome
-  on_redo joiner = happens (out_line (out.Redo 0 (is_some (redo_diff joiner.held.client.marks))) ∷ []) (redone schemas joiner.held) joiner
+  on_redo joiner = happens (out_line (out.Redo 0 (is_some (redo_diff joiner.state.client.marks))) ∷ []) (redone schemas joiner.state) joiner
 
   -- a client takes its edits back to a mark, and forgets them
   abbrev pub on_bail : List ℕ → Joiner → Outcome
-  on_bail name joiner = bail_with (bail_done name joiner.held.client.marks) (bailed schemas name joiner.held) joiner
+  on_bail name joiner = bail_with (bail_done name joiner.state.client.marks) (bailed schemas name joiner.state) joiner
 
   -- a client asks for the ids of the records of a type, among those that it shows, that meet a query
   abbrev pub on_query : List ℕ → Query → Joiner → Outcome
-  on_query type query joiner = happens (line.Printed (printed.Ids 0 (ids_meeting (shown schemas joiner.held) type query)) ∷ []) joiner.held joiner
+  on_query type query joiner = happens (line.Printed (printed.Ids 0 (ids_meeting (shown schemas joiner.state) type query)) ∷ []) joiner.state joiner
 
   -- the line by which a client shows what it has
-  abbrev pub show_line : Held → JoinLine
-  show_line held = out_line (out.Show 0 held.client.reached (map_val (shown schemas held)) (map_val (others_shown schemas held)) (length held.client.pending))
+  abbrev pub show_line : ClientState → JoinLine
+  show_line state = out_line (out.Show 0 state.client.reached (map_val (shown schemas state)) (map_val (others_shown schemas state)) (length state.client.pending))
 
   -- a client shows what it has
   abbrev pub on_show : Joiner → Outcome
-  on_show joiner = happens (show_line joiner.held ∷ []) joiner.held joiner
+  on_show joiner = happens (show_line joiner.state ∷ []) joiner.state joiner
 
   -- what it makes that a client does something by itself
   abbrev pub acts : Act → Joiner → Outcome
@@ -156,15 +156,15 @@ module _ (schemas : WorldSchemas EditFault) where
   -- a client that took a message of the room
   abbrev pub with_message : ServerMessage → Joiner → Joiner
   with_message message joiner = record joiner {
-    held = after_message (schema_of schemas joiner.held.client).admits schemas.room.is_document joiner.held message;
+    state = after_message (schema_of schemas joiner.state.client).admits schemas.room.is_document joiner.state message;
   }
 
   -- a client whose link has ended: of its base the document stays, and its edits stay pending
   abbrev pub with_end : Joiner → Joiner
   with_end joiner = record joiner {
-    held = record {
-      base = records_with schemas.room.is_document joiner.held.base;
-      client = after_cut joiner.held.client;
+    state = record {
+      base = records_with schemas.room.is_document joiner.state.base;
+      client = after_cut joiner.state.client;
     };
     is_lost = true;
   }
@@ -172,7 +172,7 @@ module _ (schemas : WorldSchemas EditFault) where
   -- what a client makes of a message, or the text of why it doesn't take it
   abbrev pub taken_of : Joiner → ServerMessage → Result Acted (Option (List ℕ))
   taken_of joiner message =
-      option_map_or (λ fault. Err (take_fault_text fault)) (take_fault joiner.held.client message)
+      option_map_or (λ fault. Err (take_fault_text fault)) (take_fault joiner.state.client message)
       (Ok (record { joiner = with_message message joiner; lines = [] }))
 
   -- what a client makes of what it waited for, or the text of why that is refused
@@ -190,16 +190,16 @@ module _ (schemas : WorldSchemas EditFault) where
 
   -- what a client says after an event: each push that it can make
   abbrev pub pushes : Joiner → List Saying
-  pushes joiner = map say.Message (push_all joiner.held.client).messages
+  pushes joiner = map say.Message (push_all joiner.state.client).messages
 
   -- a client that said so
   abbrev pub after_pushes : Joiner → Joiner
-  after_pushes joiner = record joiner { held = record joiner.held { client = (push_all joiner.held.client).client } }
+  after_pushes joiner = record joiner { state = record joiner.state { client = (push_all joiner.state.client).client } }
 
   -- the lines by which a client tells the views that it watches, as far as they changed
   abbrev pub told_lines : Joiner → List JoinLine
-  told_lines joiner = map told_line (news (shown schemas joiner.held) (map Some joiner.watched))
+  told_lines joiner = map told_line (news (shown schemas joiner.state) (map Some joiner.watched))
 
   -- a client that told them
   abbrev pub after_told : Joiner → Joiner
-  after_told joiner = record joiner { watched = map (told_now (shown schemas joiner.held)) joiner.watched }
+  after_told joiner = record joiner { watched = map (told_now (shown schemas joiner.state)) joiner.watched }

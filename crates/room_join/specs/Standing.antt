@@ -15,7 +15,7 @@ use Rattle.room_join.specs.declared.joiner.Joiner.{Joiner}
 
 -- a client of the code stands for one of the definitions, by what the tables decide
 pub record Stands (schemas : WorldSchemas EditFault) (joiner : model.Joiner) (code : Joiner) : Type 0 where
-  pub peer : peer_of.Stands schemas joiner.held code.peer
+  pub peer : peer_of.Stands schemas joiner.state code.peer
   -- it watches the same by number, and no transaction of its store is open
   pub watched : Stand (watched code.peer) (map Some joiner.watched)
   pub closed : IsClosed code.peer

@@ -38,5 +38,5 @@ take_fault_text take.NotOpen = Some (codes "NotOpen")
 take_fault_text take.WrongRequest = Some (codes "WrongRequest")
 take_fault_text (take.NoPending number) = Some (codes "NoPending")
 take_fault_text (take.WrongPending expected got) = Some (codes "WrongPending")
-take_fault_text (take.ClockBack held got) = Some (codes "ClockBack")
+take_fault_text (take.ClockBack reached got) = Some (codes "ClockBack")
 take_fault_text take.OutOfMemory = None

@@ -5,7 +5,7 @@ ghost use Rattle.room_model.specs.Replicas.{new_client, schema_of, push_all};
 ghost use Rattle.room_model.specs.Schemas.{WorldSchemas};
 ghost use Rattle.side_effects.specs.declared.fault.EditFault.{EditFault};
 ghost use Rattle.peer_schemas.specs.Clients.{AreOfTables};
-ghost use Rattle.sync_client.specs.Calls.{Held, asking, connect_answer};
+ghost use Rattle.sync_client.specs.Calls.{ClientState, asking, connect_answer};
 ghost use Rattle.sync_peer.specs.Standing as peer_of;
 ghost use Rattle.sync_peer.specs.Viewing.{watched, IsClosed, store_of};
 ghost use Rattle.tl_tables.specs.Tables.{IsVersion};
@@ -294,12 +294,12 @@ fn new_peer(alloc: Global, version: u32) -> Mem<Peer>
 
 // A client that did nothing asks to be connected: its first request has the number 0. It fails only where memory runs out.
 fn ask(alloc: Global, peer: &mut Peer) -> Mem<ClientMessage>
-    ensures asked { IfOk result (λ said. (schemas : WorldSchemas EditFault) (held : Held)
-        → peer_of.Stands schemas held peer.old
-        → connect_answer (schema_of schemas held.client).versions 0 held.client ≡ Ok said) }
-    ensures stands { OnOk result ((schemas : WorldSchemas EditFault) (held : Held)
-        → peer_of.Stands schemas held peer.old
-        → peer_of.Stands schemas (record held { client = asking 0 held.client }) peer.new) }
+    ensures asked { IfOk result (λ said. (schemas : WorldSchemas EditFault) (state : ClientState)
+        → peer_of.Stands schemas state peer.old
+        → connect_answer (schema_of schemas state.client).versions 0 state.client ≡ Ok said) }
+    ensures stands { OnOk result ((schemas : WorldSchemas EditFault) (state : ClientState)
+        → peer_of.Stands schemas state peer.old
+        → peer_of.Stands schemas (record state { client = asking 0 state.client }) peer.new) }
     ensures store { store_of peer.new ≡ store_of peer.old }
 {
     match peer.connect(alloc, 0) {
@@ -312,11 +312,11 @@ fn ask(alloc: Global, peer: &mut Peer) -> Mem<ClientMessage>
 
 // What a client can push, the oldest first. Where memory is refused nothing is said of the client.
 fn say_pushes(alloc: Global, peer: &mut Peer) -> Mem<Vec<Saying>>
-    ensures pushes { IfOk result (λ said. (schemas : WorldSchemas EditFault) (held : Held)
-        → peer_of.Stands schemas held peer.old
-        → (said.items ≡ map say.Message (push_all held.client).messages)
-        × peer_of.Stands schemas (record held {
-          client = (push_all held.client).client;
+    ensures pushes { IfOk result (λ said. (schemas : WorldSchemas EditFault) (state : ClientState)
+        → peer_of.Stands schemas state peer.old
+        → (said.items ≡ map say.Message (push_all state.client).messages)
+        × peer_of.Stands schemas (record state {
+          client = (push_all state.client).client;
         }) peer.new) }
     ensures store { store_of peer.new ≡ store_of peer.old }
 {

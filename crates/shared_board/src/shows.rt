@@ -5,7 +5,7 @@ ghost use Rattle.room_model.specs.Replicas.{Client};
 ghost use Rattle.room_model.specs.Worlds as model;
 ghost use Rattle.side_effects.specs.declared.fault.EditFault.{EditFault};
 ghost use Rattle.sync_peer.specs.Standing as peer_of;
-ghost use Rattle.sync_world.specs.Holding.{held_of};
+ghost use Rattle.sync_world.specs.States.{client_state};
 ghost use Rattle.shared_board.specs.Calls.{Tells, IsShown, IsOwed};
 ghost use Rattle.shared_board.specs.Standing.{Stands};
 
@@ -63,7 +63,7 @@ impl Board {
         ensures found { IfSome result (λ peer. (schemas : WorldSchemas EditFault)
             (state : model.World) → Stands schemas state self.now
             → (one : Client) × (slice_get state.clients client.number ≡ Some one)
-            × peer_of.Stands schemas (held_of schemas state.room.history one) peer.now) }
+            × peer_of.Stands schemas (client_state schemas state.room.history one) peer.now) }
         ensures none { IfNone result ((schemas : WorldSchemas EditFault) (state : model.World)
             → Stands schemas state self.now → slice_get state.clients client.number ≡ None) }
     {

@@ -32,7 +32,7 @@ use Rattle.client_replica.specs.Standing as replica
 use Rattle.client_replica.specs.Standing.{admits_of, document_of}
 use Rattle.client_replica.proofs.WorkLemmas.{works-append, works-unsent, diffs-edits, works-drop}
 use Rattle.sync_client.specs.Numbers.{numbered}
-use Rattle.sync_client.specs.Calls.{Held, replica_of, connect_fault, asking, asks, pushed, opened, after_answer, hydrated, updated}
+use Rattle.sync_client.specs.Calls.{ClientState, replica_of, connect_fault, asking, asks, pushed, opened, after_answer, hydrated, updated}
 use Rattle.sync_client.specs.Faults.{clock_after, answer_fault}
 use Rattle.sync_client.specs.Presences.{with_presence}
 use Rattle.sync_client.specs.Standing.{Stands}
@@ -131,13 +131,13 @@ module _ {D : Type 0} where
   works_of c = map work_of c.replica.works.items
 
   -- a further work is pending
-  pub after_work : (records : D → Pairs) (held : Held) (c : SyncClient D) (r : code.Replica D) (work : Work) → Stands records held c → replica.Stands records (replica.with_work work (replica_of held)) r
-      → (is_open held.client.connection ≡ false → (diff : RecordOps) × (work ≡ edit diff)) → Stands records (record held { client = model.with_work work held.client }) (record c { replica = r })
-  after_work records held c r work stands next only =
+  pub after_work : (records : D → Pairs) (state : ClientState) (c : SyncClient D) (r : code.Replica D) (work : Work) → Stands records state c → replica.Stands records (replica.with_work work (replica_of state)) r
+      → (is_open state.client.connection ≡ false → (diff : RecordOps) × (work ≡ edit diff)) → Stands records (record state { client = model.with_work work state.client }) (record c { replica = r })
+  after_work records state c r work stands next only =
       let first = suc (c.counts.pushes - c.counts.sent) in
       let works = works_of c in
       let more : map work_of r.works.items ≡ works ++ work ∷ [] =
-      next.0.works_are ∙ works-append held.client.pending (unsent work ∷ []) ∙ ap (λ ws. ws ++ work ∷ []) (sym stands.replica.0.works_are) in
+      next.0.works_are ∙ works-append state.client.pending (unsent work ∷ []) ∙ ap (λ ws. ws ++ work ∷ []) (sym stands.replica.0.works_are) in
       let many : c.counts.sent ≤ length works = let same = length-map c.replica.works.items work_of in let sent = stands.sent in omega arith in
       record {
         replica = next;
@@ -154,62 +154,62 @@ module _ {D : Type 0} where
         closed = λ shut.
             let one = only shut in
             let was = stands.closed shut in
-            subst (λ w. held.client.pending ++ unsent w ∷ [] ≡ all_unsent (map edit (filter_map (λ item. diff_in item.work) (held.client.pending ++ unsent w ∷ [])))) (sym one.1)
-            (closed_more held.client.pending (pending_diffs held.client) one.0 was);
+            subst (λ w. state.client.pending ++ unsent w ∷ [] ≡ all_unsent (map edit (filter_map (λ item. diff_in item.work) (state.client.pending ++ unsent w ∷ [])))) (sym one.1)
+            (closed_more state.client.pending (pending_diffs state.client) one.0 was);
       }
 
   -- what is next to be pushed is the first work that wasn't sent
-  next_is : (records : D → Pairs) (held : Held) (c : SyncClient D) → Stands records held c → next_push held.client
-      ≡ cond (is_open held.client.connection && nat_lt held.client.pushes MOST_PUSHES) (option_map (push_one held.client) (slice_get (works_of c) c.counts.sent)) None
-  next_is records held c stands =
-      ap (λ o. cond (is_open held.client.connection && nat_lt held.client.pushes MOST_PUSHES) (option_map (push_one held.client) o) None)
+  next_is : (records : D → Pairs) (state : ClientState) (c : SyncClient D) → Stands records state c → next_push state.client
+      ≡ cond (is_open state.client.connection && nat_lt state.client.pushes MOST_PUSHES) (option_map (push_one state.client) (slice_get (works_of c) c.counts.sent)) None
+  next_is records state c stands =
+      ap (λ o. cond (is_open state.client.connection && nat_lt state.client.pushes MOST_PUSHES) (option_map (push_one state.client) o) None)
       (ap first_unsent stands.pending ∙ first_unsent-numbered (suc (c.counts.pushes - c.counts.sent)) c.counts.sent (works_of c))
 
   -- a client of which all is sent pushes nothing
-  pub sent_pushes : (records : D → Pairs) (held : Held) (c : SyncClient D) → Stands records held c → slice_get (works_of c) c.counts.sent ≡ None → pushed held.client ≡ push_none held.client
-  sent_pushes records held c stands none =
-      none_pushed held.client (next_is records held c stands
-      ∙ none_both (is_open held.client.connection && nat_lt held.client.pushes MOST_PUSHES) (option_map (push_one held.client) (slice_get (works_of c) c.counts.sent)) (ap (option_map (push_one held.client)) none))
+  pub sent_pushes : (records : D → Pairs) (state : ClientState) (c : SyncClient D) → Stands records state c → slice_get (works_of c) c.counts.sent ≡ None → pushed state.client ≡ push_none state.client
+  sent_pushes records state c stands none =
+      none_pushed state.client (next_is records state c stands
+      ∙ none_both (is_open state.client.connection && nat_lt state.client.pushes MOST_PUSHES) (option_map (push_one state.client) (slice_get (works_of c) c.counts.sent)) (ap (option_map (push_one state.client)) none))
 
   -- any other pushes the first work that wasn't sent
-  pub pushes_one : (records : D → Pairs) (held : Held) (c : SyncClient D) (work : Work) → Stands records held c → is_open held.client.connection ≡ true → nat_lt held.client.pushes MOST_PUSHES ≡ true
-      → slice_get (works_of c) c.counts.sent ≡ Some work → pushed held.client ≡ push_one held.client work
-  pushes_one records held c work stands joined few there =
-      ap (λ o. unwrap_or o (push_none held.client))
-      (next_is records held c stands
-      ∙ (λ i. cond (joined i && few i) (option_map (push_one held.client) (there i)) None))
+  pub pushes_one : (records : D → Pairs) (state : ClientState) (c : SyncClient D) (work : Work) → Stands records state c → is_open state.client.connection ≡ true → nat_lt state.client.pushes MOST_PUSHES ≡ true
+      → slice_get (works_of c) c.counts.sent ≡ Some work → pushed state.client ≡ push_one state.client work
+  pushes_one records state c work stands joined few there =
+      ap (λ o. unwrap_or o (push_none state.client))
+      (next_is records state c stands
+      ∙ (λ i. cond (joined i && few i) (option_map (push_one state.client) (there i)) None))
 
-  pub after_push : (records : D → Pairs) (held : Held) (c : SyncClient D) (counts : Counts) (work : Work) → Stands records held c → is_open held.client.connection ≡ true
+  pub after_push : (records : D → Pairs) (state : ClientState) (c : SyncClient D) (counts : Counts) (work : Work) → Stands records state c → is_open state.client.connection ≡ true
       → slice_get (works_of c) c.counts.sent ≡ Some work → counts.pushes ≡ c.counts.pushes + 1 → counts.sent ≡ c.counts.sent + 1
-      → Stands records (record held { client = (push_one held.client work).client }) (record c { counts = counts })
-  after_push records held c counts work stands joined there pushes sent =
+      → Stands records (record state { client = (push_one state.client work).client }) (record c { counts = counts })
+  after_push records state c counts work stands joined there pushes sent =
       let works = works_of c in
       let first = suc (c.counts.pushes - c.counts.sent) in
       let less : c.counts.sent < length works = slice_get_within works c.counts.sent work there in
       let within = c.counts.within in
-      let number : suc held.client.pushes ≡ first + c.counts.sent = let same = stands.pushes in omega arith in
+      let number : suc state.client.pushes ≡ first + c.counts.sent = let same = stands.pushes in omega arith in
       record {
-        replica = same_works records held.base held.client.pending (send_first (suc held.client.pushes) held.client.pending) c.replica (works-sent (suc held.client.pushes) held.client.pending) stands.replica;
+        replica = same_works records state.base state.client.pending (send_first (suc state.client.pushes) state.client.pending) c.replica (works-sent (suc state.client.pushes) state.client.pending) stands.replica;
         connection = stands.connection;
         reached = stands.reached;
         presence = stands.presence;
         refused = stands.refused;
         pushes = let same = stands.pushes in omega arith;
-        pending = ap (send_first (suc held.client.pushes)) stands.pending ∙ sent-numbered first c.counts.sent works (suc held.client.pushes) less number
+        pending = ap (send_first (suc state.client.pushes)) stands.pending ∙ sent-numbered first c.counts.sent works (suc state.client.pushes) less number
             ∙ (λ i. numbered ((let it : first ≡ suc (counts.pushes - counts.sent) = omega arith in it) i) ((let it : suc c.counts.sent ≡ counts.sent = omega arith in it) i) works);
         sent = let same = length-map c.replica.works.items work_of in omega arith;
         closed = λ shut. absurd (opposite (sym joined ∙ shut));
       }
 
   -- a client whose connection is lost, for a reason or none
-  pub after_loss : (records : D → Pairs) (held : Held) (c : SyncClient D) (r : code.Replica D) (counts : Counts) (refused : Option EndReason) → Stands records held c
-      → replica.Stands records (replica.alone (document_of c.replica) (replica_of held)) r → counts.pushes ≡ c.counts.pushes → counts.sent ≡ 0
-      → Stands records (record { base = records_with (document_of c.replica) held.base; client = record (after_cut held.client) { refused = refused } }) (record c { replica = r; connection = Off; counts = counts; refused = refused })
-  after_loss records held c r counts refused stands next pushes sent =
-      let diffs = pending_diffs held.client in
+  pub after_loss : (records : D → Pairs) (state : ClientState) (c : SyncClient D) (r : code.Replica D) (counts : Counts) (refused : Option EndReason) → Stands records state c
+      → replica.Stands records (replica.alone (document_of c.replica) (replica_of state)) r → counts.pushes ≡ c.counts.pushes → counts.sent ≡ 0
+      → Stands records (record { base = records_with (document_of c.replica) state.base; client = record (after_cut state.client) { refused = refused } }) (record c { replica = r; connection = Off; counts = counts; refused = refused })
+  after_loss records state c r counts refused stands next pushes sent =
+      let diffs = pending_diffs state.client in
       let items = all_unsent (map edit diffs) in
-      let same : items ≡ all_unsent (map edit (diffs_in (works_in held.client.pending))) = ap (λ ds. all_unsent (map edit ds)) (diffs-pending held.client.pending) in
-      let now = same_works records (records_with (document_of c.replica) held.base) (all_unsent (map edit (diffs_in (works_in held.client.pending)))) items r (ap works_in same) next in
+      let same : items ≡ all_unsent (map edit (diffs_in (works_in state.client.pending))) = ap (λ ds. all_unsent (map edit ds)) (diffs-pending state.client.pending) in
+      let now = same_works records (records_with (document_of c.replica) state.base) (all_unsent (map edit (diffs_in (works_in state.client.pending)))) items r (ap works_in same) next in
       record {
         replica = now;
         connection = refl;
@@ -223,18 +223,18 @@ module _ {D : Type 0} where
       }
 
   -- a client whose request was answered
-  pub after_snapshot : (records : D → Pairs) (held : Held) (c : SyncClient D) (r : code.Replica D) (counts : Counts) (session : ℕ) (hydration : Hydration) (diff : RecordOps) (clock now : ℤ) (own : Option Data) (connection : Connection) → Stands records held c
-      → held.client.connection ≡ Asking session → now ≡ clock → connection ≡ opened c.connection → own ≡ maybe_data c.presence
-      → replica.Stands records (replica.after_snapshot (admits_of c.replica) (document_of c.replica) hydration diff own (replica_of held)) r → counts.pushes ≡ c.counts.pushes → counts.sent ≡ 0
-      → Stands records (hydrated (admits_of c.replica) (document_of c.replica) hydration diff clock held) (record c { replica = r; connection = connection; reached = now; counts = counts })
-  after_snapshot records held c r counts session hydration diff clock now own connection stands asks now_is opened_is own_is next pushes sent =
-      let client = held.client in
+  pub after_snapshot : (records : D → Pairs) (state : ClientState) (c : SyncClient D) (r : code.Replica D) (counts : Counts) (session : ℕ) (hydration : Hydration) (diff : RecordOps) (clock now : ℤ) (own : Option Data) (connection : Connection) → Stands records state c
+      → state.client.connection ≡ Asking session → now ≡ clock → connection ≡ opened c.connection → own ≡ maybe_data c.presence
+      → replica.Stands records (replica.after_snapshot (admits_of c.replica) (document_of c.replica) hydration diff own (replica_of state)) r → counts.pushes ≡ c.counts.pushes → counts.sent ≡ 0
+      → Stands records (hydrated (admits_of c.replica) (document_of c.replica) hydration diff clock state) (record c { replica = r; connection = connection; reached = now; counts = counts })
+  after_snapshot records state c r counts session hydration diff clock now own connection stands asks now_is opened_is own_is next pushes sent =
+      let client = state.client in
       let was = stands.closed (ap is_open asks) in
       let works : works_in client.pending ≡ map edit (pending_diffs client) = ap works_in was ∙ works-unsent (map edit (pending_diffs client)) in
       let items = (after_answer clock client).pending in
       let same : works_in items ≡ works_in (all_unsent (works_in client.pending ++ map presence (option_to_list own))) =
       (λ i. works_in (all_unsent (sym works i ++ map presence (option_to_list ((sym stands.presence ∙ sym own_is) i))))) in
-      let now = same_works records (hydrated (admits_of c.replica) (document_of c.replica) hydration diff clock held).base (all_unsent (works_in client.pending ++ map presence (option_to_list own))) items r same next in
+      let now = same_works records (hydrated (admits_of c.replica) (document_of c.replica) hydration diff clock state).base (all_unsent (works_in client.pending ++ map presence (option_to_list own))) items r same next in
       let all = map edit (pending_diffs client) ++ map presence (option_to_list client.presence) in
       record {
         replica = now;
@@ -249,17 +249,17 @@ module _ {D : Type 0} where
       }
 
   -- a client that took events
-  pub after_data : (records : D → Pairs) (held : Held) (c : SyncClient D) (r : code.Replica D) (counts : Counts) (events : List DataEvent) (clock : ℤ) → Stands records held c → is_open held.client.connection ≡ true
-      → replica.Stands records (after_events (admits_of c.replica) (replica_of held) events) r → clock ≡ clock_after c.reached events → counts.pushes ≡ c.counts.pushes → counts.sent + sum_by ended_by events ≡ c.counts.sent
-      → Stands records (updated (admits_of c.replica) (document_of c.replica) events held) (record c { replica = r; reached = clock; counts = counts })
-  after_data records held c r counts events clock stands joined next clock_is pushes sent =
+  pub after_data : (records : D → Pairs) (state : ClientState) (c : SyncClient D) (r : code.Replica D) (counts : Counts) (events : List DataEvent) (clock : ℤ) → Stands records state c → is_open state.client.connection ≡ true
+      → replica.Stands records (after_events (admits_of c.replica) (replica_of state) events) r → clock ≡ clock_after c.reached events → counts.pushes ≡ c.counts.pushes → counts.sent + sum_by ended_by events ≡ c.counts.sent
+      → Stands records (updated (admits_of c.replica) (document_of c.replica) events state) (record c { replica = r; reached = clock; counts = counts })
+  after_data records state c r counts events clock stands joined next clock_is pushes sent =
       let n = sum_by ended_by events in
       let first = suc (c.counts.pushes - c.counts.sent) in
       let works = works_of c in
       let within = c.counts.within in
       let many = let same = length-map c.replica.works.items work_of in let was = stands.sent in let it : c.counts.sent ≤ length works = omega arith in it in
-      let ended = ended-drop (admits_of c.replica) (replica_of held) events in
-      let left : map work_of r.works.items ≡ drop n works = next.0.works_are ∙ ap works_in ended ∙ works-drop n held.client.pending ∙ ap (drop n) (sym stands.replica.0.works_are) in
+      let ended = ended-drop (admits_of c.replica) (replica_of state) events in
+      let left : map work_of r.works.items ≡ drop n works = next.0.works_are ∙ ap works_in ended ∙ works-drop n state.client.pending ∙ ap (drop n) (sym stands.replica.0.works_are) in
       record {
         replica = next;
         connection = stands.connection;
@@ -277,8 +277,8 @@ module _ {D : Type 0} where
       }
 
   -- the replica came to stand for the same
-  pub still : (records : D → Pairs) (held : Held) (c : SyncClient D) (r : code.Replica D) → Stands records held c → replica.Stands records (replica_of held) r → Stands records held (record c { replica = r })
-  still records held c r stands next =
+  pub still : (records : D → Pairs) (state : ClientState) (c : SyncClient D) (r : code.Replica D) → Stands records state c → replica.Stands records (replica_of state) r → Stands records state (record c { replica = r })
+  still records state c r stands next =
       let same : works_of c ≡ map work_of r.works.items = stands.replica.0.works_are ∙ sym next.0.works_are in
       record {
         replica = next;
@@ -298,8 +298,8 @@ module _ {D : Type 0} where
       }
 
   -- a client that could connect asks
-  pub after_ask : (records : D → Pairs) (held : Held) (c : SyncClient D) (request : ℕ) → Stands records held c → connect_fault held.client ≡ None → Stands records (record held { client = asking request held.client }) (record c { connection = Asking request })
-  after_ask records held c request stands none = record {
+  pub after_ask : (records : D → Pairs) (state : ClientState) (c : SyncClient D) (request : ℕ) → Stands records state c → connect_fault state.client ≡ None → Stands records (record state { client = asking request state.client }) (record c { connection = Asking request })
+  after_ask records state c request stands none = record {
     replica = stands.replica;
     connection = refl;
     reached = stands.reached;
@@ -308,18 +308,18 @@ module _ {D : Type 0} where
     pushes = stands.pushes;
     pending = stands.pending;
     sent = stands.sent;
-    closed = λ shut. stands.closed (shut_by held.client.connection held.client.refused none);
+    closed = λ shut. stands.closed (shut_by state.client.connection state.client.refused none);
   }
 
   -- what it shows
-  pub shows : (records : D → Pairs) (held : Held) (c : SyncClient D) → Stands records held c → records c.replica.store ≡ replay (admits_of c.replica) (records_with (document_of c.replica) held.base) (pending_diffs held.client)
-  shows records held c stands =
-      stands.replica.0.shown ∙ ap (replay (admits_of c.replica) (records_with (document_of c.replica) held.base)) (ap diffs_in stands.replica.0.works_are ∙ sym (diffs-pending held.client.pending))
+  pub shows : (records : D → Pairs) (state : ClientState) (c : SyncClient D) → Stands records state c → records c.replica.store ≡ replay (admits_of c.replica) (records_with (document_of c.replica) state.base) (pending_diffs state.client)
+  shows records state c stands =
+      stands.replica.0.shown ∙ ap (replay (admits_of c.replica) (records_with (document_of c.replica) state.base)) (ap diffs_in stands.replica.0.works_are ∙ sym (diffs-pending state.client.pending))
 
   -- it has a presence of its own
-  with_own : (records : D → Pairs) (held : Held) (c : SyncClient D) (own : Option Val) (d : Data) → Stands records held c → maybe_data own ≡ Some d
-      → Stands records (record held { client = record held.client { presence = Some d } }) (record c { presence = own })
-  with_own records held c own d stands own_is = record {
+  with_own : (records : D → Pairs) (state : ClientState) (c : SyncClient D) (own : Option Val) (d : Data) → Stands records state c → maybe_data own ≡ Some d
+      → Stands records (record state { client = record state.client { presence = Some d } }) (record c { presence = own })
+  with_own records state c own d stands own_is = record {
     replica = stands.replica;
     connection = stands.connection;
     reached = stands.reached;
@@ -332,14 +332,14 @@ module _ {D : Type 0} where
   }
 
   -- set on a connection it is pending
-  pub own_open : (records : D → Pairs) (held : Held) (c : SyncClient D) (r : code.Replica D) (stored : Val) → Stands records held c → is_open held.client.connection ≡ true
-      → replica.Stands records (replica.with_work (presence (data_of stored)) (replica_of held)) r
-      → Stands records (record held { client = with_presence (data_of stored) held.client }) (record c { replica = r; presence = Some stored })
-  own_open records held c r stored stands joined next =
-      let set = record held.client { presence = Some (data_of stored) } in
-      subst (λ client. Stands records (record held { client = client }) (record c { replica = r; presence = Some stored })) (sym (ap (λ b. cond b (model.with_work (presence (data_of stored)) set) set) joined))
-      (with_own records (record held { client = model.with_work (presence (data_of stored)) held.client }) (record c { replica = r }) (Some stored) (data_of stored)
-      (after_work records held c r (presence (data_of stored)) stands next (λ shut. absurd (opposite (sym joined ∙ shut)))) refl)
+  pub own_open : (records : D → Pairs) (state : ClientState) (c : SyncClient D) (r : code.Replica D) (stored : Val) → Stands records state c → is_open state.client.connection ≡ true
+      → replica.Stands records (replica.with_work (presence (data_of stored)) (replica_of state)) r
+      → Stands records (record state { client = with_presence (data_of stored) state.client }) (record c { replica = r; presence = Some stored })
+  own_open records state c r stored stands joined next =
+      let set = record state.client { presence = Some (data_of stored) } in
+      subst (λ client. Stands records (record state { client = client }) (record c { replica = r; presence = Some stored })) (sym (ap (λ b. cond b (model.with_work (presence (data_of stored)) set) set) joined))
+      (with_own records (record state { client = model.with_work (presence (data_of stored)) state.client }) (record c { replica = r }) (Some stored) (data_of stored)
+      (after_work records state c r (presence (data_of stored)) stands next (λ shut. absurd (opposite (sym joined ∙ shut)))) refl)
 
 -- what a client sends that asks
 pub answer_is : (client : Client) (reached : ℤ) (request : ℕ) (versions : Versions) → client.reached ≡ reached → asks versions request client ≡ said.Connect (decimal request) reached PROTOCOL versions

@@ -18,17 +18,17 @@ left_after items k (Patch diff clock) = ap (λ n. drop n items) (let it : k ≡ 
 left_after items k (PushResult number clock action) = drop-drop 1 k items
 
 -- an event without fault leaves the others
-pub fault-next : (items : List Pending) (k : ℕ) (held : ℤ) (n : Option ℕ) (event : DataEvent) (events : List DataEvent) → first_number (drop k items) ≡ n → event_fault n held event ≡ None
-    → events_fault (drop k items) held (event ∷ events) ≡ events_fault (drop (k + ended_by event) items) (clock_of event) events
-fault-next items k held n event events number none =
-    (λ i. option_or (event_fault (number i) held event) (events_fault (left_after items k event i) (clock_of event) events))
+pub fault-next : (items : List Pending) (k : ℕ) (reached : ℤ) (n : Option ℕ) (event : DataEvent) (events : List DataEvent) → first_number (drop k items) ≡ n → event_fault n reached event ≡ None
+    → events_fault (drop k items) reached (event ∷ events) ≡ events_fault (drop (k + ended_by event) items) (clock_of event) events
+fault-next items k reached n event events number none =
+    (λ i. option_or (event_fault (number i) reached event) (events_fault (left_after items k event i) (clock_of event) events))
     ∙ ap (λ o. option_or o (events_fault (drop (k + ended_by event) items) (clock_of event) events)) none
 
 -- the first event at fault decides
-pub fault-here : (items : List Pending) (k : ℕ) (held : ℤ) (n : Option ℕ) (event : DataEvent) (events : List DataEvent) (fault : TakeFault) → first_number (drop k items) ≡ n → event_fault n held event ≡ Some fault
-    → events_fault (drop k items) held (event ∷ events) ≡ Some fault
-fault-here items k held n event events fault number some =
-    (λ i. option_or (event_fault (number i) held event) (events_fault (pending_after (drop k items) event) (clock_of event) events))
+pub fault-here : (items : List Pending) (k : ℕ) (reached : ℤ) (n : Option ℕ) (event : DataEvent) (events : List DataEvent) (fault : TakeFault) → first_number (drop k items) ≡ n → event_fault n reached event ≡ Some fault
+    → events_fault (drop k items) reached (event ∷ events) ≡ Some fault
+fault-here items k reached n event events fault number some =
+    (λ i. option_or (event_fault (number i) reached event) (events_fault (pending_after (drop k items) event) (clock_of event) events))
     ∙ ap (λ o. option_or o (events_fault (pending_after (drop k items) event) (clock_of event) events)) some
 
 expected-left : (first sent k left : ℕ) → left + k ≡ sent → expected (first + k) left 0 ≡ expected first sent k

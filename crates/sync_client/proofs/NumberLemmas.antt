@@ -9,7 +9,7 @@ use Rattle.sync_msgs.specs.declared.server_message.Hydration.{Hydration}
 use Rattle.sync_msgs.specs.declared.server_message.Hydration.TheVariants.{WipeAll, WipePresence}
 use Rattle.room_model.specs.Schemas.{records_with}
 use Rattle.client_replica.specs.Parts.{wiped}
-use Rattle.sync_client.specs.Calls.{Held, answer_steps}
+use Rattle.sync_client.specs.Calls.{ClientState, answer_steps}
 use Rattle.sync_client.specs.Numbers.{numbered, expected}
 use Rattle.sync_client.specs.Faults.{first_number}
 
@@ -64,8 +64,8 @@ number-numbered first (suc sent) [] within = absurd (omega arith)
 number-numbered first (suc sent) (work ∷ works) within = grind arith
 
 -- how few steps an answer takes
-pub answer_few : (is_doc : List ℕ → Bool) (held : Held) (hydration : Hydration) (diff : RecordOps) (old new : ℕ)
-    → new ≤ old + (2 * operations (diffs_in (works_in held.client.pending)) + length diff + wiped hydration (records_with is_doc held.base)) → (hydration ≡ WipePresence → new ≤ old + length diff)
-    → new ≤ old + answer_steps is_doc held hydration diff
-answer_few is_doc held WipeAll diff old new all few = let same = ap operations (diffs-pending held.client.pending) in omega (arith, all, same)
-answer_few is_doc held WipePresence diff old new all few = few refl
+pub answer_few : (is_doc : List ℕ → Bool) (state : ClientState) (hydration : Hydration) (diff : RecordOps) (old new : ℕ)
+    → new ≤ old + (2 * operations (diffs_in (works_in state.client.pending)) + length diff + wiped hydration (records_with is_doc state.base)) → (hydration ≡ WipePresence → new ≤ old + length diff)
+    → new ≤ old + answer_steps is_doc state hydration diff
+answer_few is_doc state WipeAll diff old new all few = let same = ap operations (diffs-pending state.client.pending) in omega (arith, all, same)
+answer_few is_doc state WipePresence diff old new all few = few refl

@@ -45,7 +45,7 @@ abbrev pub pushed : Client → Pushing
 pushed client = unwrap_or (next_push client) (push_none client)
 
 -- a client with its base
-pub record Held : Type 0 where
+pub record ClientState : Type 0 where
   pub base : Pairs
   pub client : Client
 
@@ -64,27 +64,27 @@ after_answer clock client = record client {
 }
 
 -- the replica of a client
-abbrev pub replica_of : Held → Replica
-replica_of held = record { base = held.base; pending = held.client.pending }
+abbrev pub replica_of : ClientState → Replica
+replica_of state = record { base = state.base; pending = state.client.pending }
 
 -- a client with what events made of its replica, at a clock
-abbrev pub with_replica : ℤ → Client → Replica → Held
+abbrev pub with_replica : ℤ → Client → Replica → ClientState
 with_replica clock client replica = record { base = replica.base; client = record client { reached = clock; pending = replica.pending } }
 
 module _ (admits : List ℕ → Data → Bool) (is_doc : List ℕ → Bool) where
   -- a client with its base after an answer
-  abbrev pub hydrated : Hydration → RecordOps → ℤ → Held → Held
-  hydrated hydration diff clock held = record { base = after_hydration admits is_doc held.base hydration diff; client = after_answer clock held.client }
+  abbrev pub hydrated : Hydration → RecordOps → ℤ → ClientState → ClientState
+  hydrated hydration diff clock state = record { base = after_hydration admits is_doc state.base hydration diff; client = after_answer clock state.client }
 
   -- a client with its base after events
-  abbrev pub updated : List DataEvent → Held → Held
-  updated events held = with_replica (clock_after held.client.reached events) held.client (after_events admits (replica_of held) events)
+  abbrev pub updated : List DataEvent → ClientState → ClientState
+  updated events state = with_replica (clock_after state.client.reached events) state.client (after_events admits (replica_of state) events)
 
   -- the same after a message that it takes
-  abbrev pub after_message : Held → ServerMessage → Held
-  after_message held (message.Connect hydration request protocol schema diff clock readonly) = hydrated hydration diff clock held
-  after_message held (message.Data events) = updated events held
-  after_message held message.Pong = held
+  abbrev pub after_message : ClientState → ServerMessage → ClientState
+  after_message state (message.Connect hydration request protocol schema diff clock readonly) = hydrated hydration diff clock state
+  after_message state (message.Data events) = updated events state
+  after_message state message.Pong = state
 
 -- each event of a message commits the first of the pending works that are left, which names ids of the document alone
 abbrev pub is_own_message : (List ℕ → Bool) → Client → ServerMessage → Bool
@@ -99,12 +99,12 @@ message_steps is_doc base (message.Data events) = brought events
 message_steps is_doc base message.Pong = 0
 
 -- how many steps an answer may take: those of its operations, and if the document is wiped also those of all that is pending and of the document
-abbrev pub answer_steps : (List ℕ → Bool) → Held → Hydration → RecordOps → ℕ
-answer_steps is_doc held WipeAll diff = 2 * operations (pending_diffs held.client) + (length diff + length (records_with is_doc held.base))
-answer_steps is_doc held WipePresence diff = length diff
+abbrev pub answer_steps : (List ℕ → Bool) → ClientState → Hydration → RecordOps → ℕ
+answer_steps is_doc state WipeAll diff = 2 * operations (pending_diffs state.client) + (length diff + length (records_with is_doc state.base))
+answer_steps is_doc state WipePresence diff = length diff
 
 -- how many a message may take: data take those of the operations that they bring, and twice those of the works that they end
-abbrev pub few_steps : (List ℕ → Bool) → Held → ServerMessage → ℕ
-few_steps is_doc held (message.Connect hydration request protocol schema diff clock readonly) = answer_steps is_doc held hydration diff
-few_steps is_doc held (message.Data events) = brought events + 2 * operations (diffs_in (take (ended events) (works_in held.client.pending)))
-few_steps is_doc held message.Pong = 0
+abbrev pub few_steps : (List ℕ → Bool) → ClientState → ServerMessage → ℕ
+few_steps is_doc state (message.Connect hydration request protocol schema diff clock readonly) = answer_steps is_doc state hydration diff
+few_steps is_doc state (message.Data events) = brought events + 2 * operations (diffs_in (take (ended events) (works_in state.client.pending)))
+few_steps is_doc state message.Pong = 0

@@ -17,29 +17,29 @@ abbrev pub first_number : List Pending → Option ℕ
 first_number [] = None
 first_number (item ∷ items) = item.sent_as
 
--- a clock lies below the held one
+-- a clock lies below the reached one
 abbrev pub clock_fault : ℤ → ℤ → Option TakeFault
-clock_fault held clock = if int_lt clock held then Some (ClockBack held clock) else None
+clock_fault reached clock = if int_lt clock reached then Some (ClockBack reached clock) else None
 
 -- a result is that of another push than the one that is expected
 abbrev pub number_fault : ℤ → ℕ → Option TakeFault
 number_fault (pos n) expected = if n == expected then None else Some (WrongPending (pos expected) (pos n))
 number_fault (negsuc n) expected = Some (WrongPending (pos expected) (negsuc n))
 
--- what is wrong with an event, if the first pending item was sent under this number, or wasn't, and this clock is held
+-- what is wrong with an event, if the first pending item was sent under this number, or wasn't, and this clock is reached
 abbrev pub event_fault : Option ℕ → ℤ → DataEvent → Option TakeFault
-event_fault expected held (Patch diff clock) = clock_fault held clock
-event_fault expected held (PushResult number clock action) =
-    option_or (option_map_or (number_fault number) expected (Some (NoPending number))) (clock_fault held clock)
+event_fault expected reached (Patch diff clock) = clock_fault reached clock
+event_fault expected reached (PushResult number clock action) =
+    option_or (option_map_or (number_fault number) expected (Some (NoPending number))) (clock_fault reached clock)
 
--- the clock that is held after an event
+-- the clock that is reached after an event
 abbrev pub clock_of : DataEvent → ℤ
 clock_of (Patch diff clock) = clock
 clock_of (PushResult number clock action) = clock
 
--- the clock that is held after events
+-- the clock that is reached after events
 abbrev pub clock_after : ℤ → List DataEvent → ℤ
-clock_after held events = fold (λ clock event. clock_of event) held events
+clock_after reached events = fold (λ clock event. clock_of event) reached events
 
 -- what is pending after an event: a result ends the first item
 abbrev pub pending_after : List Pending → DataEvent → List Pending
@@ -48,8 +48,8 @@ pending_after items (PushResult number clock action) = drop 1 items
 
 -- what is wrong with the first event at fault
 abbrev pub events_fault : List Pending → ℤ → List DataEvent → Option TakeFault
-events_fault items held [] = None
-events_fault items held (event ∷ events) = option_or (event_fault (first_number items) held event) (events_fault (pending_after items event) (clock_of event) events)
+events_fault items reached [] = None
+events_fault items reached (event ∷ events) = option_or (event_fault (first_number items) reached event) (events_fault (pending_after items event) (clock_of event) events)
 
 -- what is wrong with an answer to a request: none was asked, or another one
 abbrev pub answer_fault : Connection → List ℕ → Option TakeFault

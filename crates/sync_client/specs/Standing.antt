@@ -6,21 +6,21 @@ use Rattle.room_model.specs.Replicas.{is_open, all_unsent, edit, pending_diffs}
 use Rattle.client_replica.specs.Works.{work_of}
 use Rattle.client_replica.specs.Standing as replica
 use Rattle.sync_client.specs.Numbers.{numbered}
-use Rattle.sync_client.specs.Calls.{Held, replica_of}
+use Rattle.sync_client.specs.Calls.{ClientState, replica_of}
 use Rattle.sync_client.specs.declared.client.SyncClient.{SyncClient}
 
 module _ {D : Type 0} where
   -- a client stands for a client of the model with its base, if this says which records a store has; of marks and versions it
   -- knows nothing
-  pub record Stands (records : D → Pairs) (held : Held) (c : SyncClient D) : Type 0 where
-    pub replica : replica.Stands records (replica_of held) c.replica
-    pub connection : c.connection ≡ held.client.connection
-    pub reached : c.reached ≡ held.client.reached
-    pub presence : maybe_data c.presence ≡ held.client.presence
-    pub refused : c.refused ≡ held.client.refused
-    pub pushes : c.counts.pushes ≡ held.client.pushes
+  pub record Stands (records : D → Pairs) (state : ClientState) (c : SyncClient D) : Type 0 where
+    pub replica : replica.Stands records (replica_of state) c.replica
+    pub connection : c.connection ≡ state.client.connection
+    pub reached : c.reached ≡ state.client.reached
+    pub presence : maybe_data c.presence ≡ state.client.presence
+    pub refused : c.refused ≡ state.client.refused
+    pub pushes : c.counts.pushes ≡ state.client.pushes
     -- the first of the pending works were sent, in turn, the last of them by the last push
-    pub pending : held.client.pending ≡ numbered (suc (c.counts.pushes - c.counts.sent)) c.counts.sent (map work_of c.replica.works.items)
+    pub pending : state.client.pending ≡ numbered (suc (c.counts.pushes - c.counts.sent)) c.counts.sent (map work_of c.replica.works.items)
     pub sent : c.counts.sent ≤ length c.replica.works.items
     -- without a connection there are edits alone, and none was sent
-    pub closed : is_open held.client.connection ≡ false → held.client.pending ≡ all_unsent (map edit (pending_diffs held.client))
+    pub closed : is_open state.client.connection ≡ false → state.client.pending ≡ all_unsent (map edit (pending_diffs state.client))

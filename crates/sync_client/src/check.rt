@@ -34,7 +34,7 @@ pub(crate) fn check_answer(connection: Connection, request: &str) -> Result<(), 
 pub(crate) struct Checked {
     /// How many pending works they end.
     pub(crate) ended: usize,
-    /// The clock that is held after them.
+    /// The clock that is reached after them.
     pub(crate) clock: i64,
 }
 
@@ -44,18 +44,18 @@ pub(crate) fn check_events(
     events: &[DataEvent],
     first: u64,
     sent: usize,
-    held: i64,
+    reached: i64,
 ) -> Result<Checked, TakeFault>
     requires { first + sent < 2 ^ 63 }
     ensures fault { (works : List Work) → sent ≤ length works
-        → result_err result ≡ faults.events_fault (numbered first sent works) held events.now }
+        → result_err result ≡ faults.events_fault (numbered first sent works) reached events.now }
     ensures ended { IfOk result (λ checked. checked.ended ≡ sum_by ended_by events.now) }
     ensures within { IfOk result (λ checked. checked.ended ≤ sent) }
-    ensures clock { IfOk result (λ checked. checked.clock ≡ faults.clock_after held events.now) }
+    ensures clock { IfOk result (λ checked. checked.clock ≡ faults.clock_after reached events.now) }
 {
     let mut checked = Checked {
         ended: 0,
-        clock: held,
+        clock: reached,
     };
     'events: for event in events {
         match check_event(event, first, sent, &checked) {
@@ -107,12 +107,12 @@ fn check_event(
     }
 }
 
-// That a clock doesn't lie below the held one.
-fn check_clock(held: i64, clock: i64) -> Result<(), TakeFault>
-    ensures { result_err result ≡ faults.clock_fault held clock }
+// That a clock doesn't lie below the reached one.
+fn check_clock(reached: i64, clock: i64) -> Result<(), TakeFault>
+    ensures { result_err result ≡ faults.clock_fault reached clock }
 {
-    if clock < held {
-        Err(TakeFault::ClockBack(held, clock))
+    if clock < reached {
+        Err(TakeFault::ClockBack(reached, clock))
     } else {
         Ok(())
     }

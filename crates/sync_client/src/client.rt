@@ -19,7 +19,7 @@ ghost use Rattle.client_replica.specs.Parts.{wiped};
 ghost use Rattle.client_replica.specs.Works.{work_of, works_in, diffs_in, operations, brought, ended};
 ghost use Rattle.client_replica.specs.Owns.{are_own};
 ghost use Rattle.sync_client.specs.Calls as calls;
-ghost use Rattle.sync_client.specs.Calls.{Held, connect_answer, opened, hydrated, updated, asking, pushed, after_message, message_steps, answer_steps, few_steps, is_own_message};
+ghost use Rattle.sync_client.specs.Calls.{ClientState, connect_answer, opened, hydrated, updated, asking, pushed, after_message, message_steps, answer_steps, few_steps, is_own_message};
 ghost use Rattle.std.specs.Result.{result_err};
 ghost use Rattle.sync_client.specs.Faults as faults;
 ghost use Rattle.sync_client.specs.Faults.{take_fault};
@@ -99,19 +99,19 @@ impl<D: DocStore> SyncClient<D> {
         checked: bool,
         steps: &mut Steps<L>,
     ) -> Mem<Diff>
-        ensures ok { OnOk result ((held : Held) → Stands D.records held self.old
+        ensures ok { OnOk result ((state : ClientState) → Stands D.records state self.old
             → IsChecked checked (admits_of self.old.replica)
             (D.records self.old.replica.store) diff
-            → Stands D.records (record held {
+            → Stands D.records (record state {
               client = model.with_work
-                  (edit diff) held.client;
+                  (edit diff) state.client;
             }) self.new) }
         ensures back { IfOk result (λ back. IsChecked checked (admits_of self.old.replica)
             (D.records self.old.replica.store) diff
             → back ≡ inverse_diff (admits_of self.old.replica)
             (D.records self.old.replica.store) diff) }
-        ensures err { OnErr result ((held : Held) → Stands D.records held self.old
-            → Stands D.records held self.new) }
+        ensures err { OnErr result ((state : ClientState) → Stands D.records state self.old
+            → Stands D.records state self.new) }
         ensures schema { self.new.replica.schema ≡ self.old.replica.schema }
         ensures begun { D.begun self.new.replica.store ≡ D.begun self.old.replica.store }
         ensures rest { D.rest self.new.replica.store ≡ D.rest self.old.replica.store }
@@ -130,13 +130,13 @@ impl<D: DocStore> SyncClient<D> {
         ensures fault { Gives presence_fault_is.OutOfMemory (λ done. done) result (option_map_or
             (λ fault. Err fault) (presence_fault (schema_tree self.old.replica.schema)
             (data_of stored)) (Ok tt)) }
-        ensures ok { OnOk result ((held : Held) → Stands D.records held self.old
-            → Stands D.records (record held {
+        ensures ok { OnOk result ((state : ClientState) → Stands D.records state self.old
+            → Stands D.records (record state {
               client = with_presence
-                  (data_of stored) held.client;
+                  (data_of stored) state.client;
             }) self.new) }
-        ensures err { OnErr result ((held : Held) → Stands D.records held self.old
-            → Stands D.records held self.new) }
+        ensures err { OnErr result ((state : ClientState) → Stands D.records state self.old
+            → Stands D.records state self.new) }
         ensures schema { self.new.replica.schema ≡ self.old.replica.schema }
         ensures store { self.new.replica.store ≡ self.old.replica.store }
     {
@@ -157,12 +157,12 @@ impl<D: DocStore> SyncClient<D> {
     /// `AlreadyOpen` exactly where it has asked before or is connected; `Refused` exactly where the room ended a session of
     /// it for another reason than `Slow`, which is given; or `OutOfMemory`. Then the client is as before.
     pub fn connect(&mut self, alloc: Global, request: u64) -> Result<ClientMessage, ConnectFault>
-        ensures answer { (held : Held) → Stands D.records held self.old
+        ensures answer { (state : ClientState) → Stands D.records state self.old
             → Gives connect_fault.OutOfMemory
             (λ said. said) result (connect_answer (newest_versions
-            (schema_tree self.old.replica.schema).sequences) request held.client) }
-        ensures ok { OnOk result ((held : Held) → Stands D.records held self.old
-            → Stands D.records (record held { client = asking request held.client }) self.new) }
+            (schema_tree self.old.replica.schema).sequences) request state.client) }
+        ensures ok { OnOk result ((state : ClientState) → Stands D.records state self.old
+            → Stands D.records (record state { client = asking request state.client }) self.new) }
         ensures err { OnErr result (self.new ≡ self.old) }
         ensures replica { self.new.replica ≡ self.old.replica }
     {
@@ -180,8 +180,8 @@ impl<D: DocStore> SyncClient<D> {
 
     // Why it can't connect, if it can't.
     fn connect_fault(&self) -> Option<ConnectFault>
-        ensures { (held : Held) → Stands D.records held self.now
-            → result ≡ calls.connect_fault held.client }
+        ensures { (state : ClientState) → Stands D.records state self.now
+            → result ≡ calls.connect_fault state.client }
     {
         match self.connection {
             Connection::Asking(_) => Some(ConnectFault::AlreadyOpen),
@@ -212,10 +212,10 @@ impl<D: DocStore> SyncClient<D> {
     /// was sent, or its pushes have reached 2^53 - 1. It costs a copy of the work. Where memory is refused the client is as
     /// before.
     pub fn next_push(&mut self, alloc: Global) -> Mem<Option<ClientMessage>>
-        ensures push { IfOk result (λ push. (held : Held) → Stands D.records held self.old
-            → option_to_list push ≡ (pushed held.client).messages) }
-        ensures ok { OnOk result ((held : Held) → Stands D.records held self.old
-            → Stands D.records (record held { client = (pushed held.client).client }) self.new) }
+        ensures push { IfOk result (λ push. (state : ClientState) → Stands D.records state self.old
+            → option_to_list push ≡ (pushed state.client).messages) }
+        ensures ok { OnOk result ((state : ClientState) → Stands D.records state self.old
+            → Stands D.records (record state { client = (pushed state.client).client }) self.new) }
         ensures err { OnErr result (self.new ≡ self.old) }
         ensures replica { self.new.replica ≡ self.old.replica }
     {
@@ -254,24 +254,24 @@ impl<D: DocStore> SyncClient<D> {
         message: &ServerMessage,
         steps: &mut Steps<L>,
     ) -> Result<(), TakeFault>
-        ensures fault { (held : Held) → Stands D.records held self.old
+        ensures fault { (state : ClientState) → Stands D.records state self.old
             → Gives take_fault_is.OutOfMemory (λ done. done) result (option_map_or
-            (λ fault. Err fault) (take_fault held.client message.now) (Ok tt)) }
-        ensures ok { OnOk result ((held : Held) → Stands D.records held self.old
+            (λ fault. Err fault) (take_fault state.client message.now) (Ok tt)) }
+        ensures ok { OnOk result ((state : ClientState) → Stands D.records state self.old
             → Stands D.records (after_message (admits_of self.old.replica)
-            (document_of self.old.replica) held message.now) self.new) }
-        ensures err { OnErr result ((held : Held) → Stands D.records held self.old
-            → Stands D.records held self.new) }
+            (document_of self.old.replica) state message.now) self.new) }
+        ensures err { OnErr result ((state : ClientState) → Stands D.records state self.old
+            → Stands D.records state self.new) }
         ensures schema { self.new.replica.schema ≡ self.old.replica.schema }
         ensures begun { D.begun self.new.replica.store ≡ D.begun self.old.replica.store }
         ensures rest { D.rest self.new.replica.store ≡ D.rest self.old.replica.store }
-        ensures ticks { (held : Held) → Stands D.records held self.old
-            → steps.new ≤ steps.old + (2 * operations (pending_diffs held.client) + message_steps
-            (document_of self.old.replica) held.base message.now) }
-        ensures few { (held : Held) → Stands D.records held self.old
-            → steps.new ≤ steps.old + few_steps (document_of self.old.replica) held message.now }
-        ensures own { OnOk result ((held : Held) → Stands D.records held self.old
-            → is_own_message (document_of self.old.replica) held.client message.now ≡ true
+        ensures ticks { (state : ClientState) → Stands D.records state self.old
+            → steps.new ≤ steps.old + (2 * operations (pending_diffs state.client) + message_steps
+            (document_of self.old.replica) state.base message.now) }
+        ensures few { (state : ClientState) → Stands D.records state self.old
+            → steps.new ≤ steps.old + few_steps (document_of self.old.replica) state message.now }
+        ensures own { OnOk result ((state : ClientState) → Stands D.records state self.old
+            → is_own_message (document_of self.old.replica) state.client message.now ≡ true
             → (steps.new ≡ steps.old) × (self.new.replica.store ≡ self.old.replica.store)) }
     {
         match message {
@@ -297,11 +297,11 @@ impl<D: DocStore> SyncClient<D> {
     /// Learns that its connection is lost: its edits stay pending and are to be pushed again, its presence isn't pending
     /// any more, and those of others are gone. It takes no memory.
     pub fn lost(&mut self, alloc: Global)
-        ensures stands { (held : Held) → Stands D.records held self.old
+        ensures stands { (state : ClientState) → Stands D.records state self.old
             → Stands D.records (record {
               base = records_with
-                  (document_of self.old.replica) held.base;
-              client = after_cut held.client;
+                  (document_of self.old.replica) state.base;
+              client = after_cut state.client;
             }) self.new }
         ensures store { self.new.replica.store ≡ self.old.replica.store }
         ensures schema { self.new.replica.schema ≡ self.old.replica.schema }
@@ -312,11 +312,11 @@ impl<D: DocStore> SyncClient<D> {
     /// Learns that the room ended its session: as `lost`, and after each reason but `Slow` it can't connect any more. It
     /// takes no memory.
     pub fn ended(&mut self, alloc: Global, reason: EndReason)
-        ensures stands { (held : Held) → Stands D.records held self.old
+        ensures stands { (state : ClientState) → Stands D.records state self.old
             → Stands D.records (record {
               base = records_with
-                  (document_of self.old.replica) held.base;
-              client = after_end reason held.client;
+                  (document_of self.old.replica) state.base;
+              client = after_end reason state.client;
             }) self.new }
         ensures store { self.new.replica.store ≡ self.old.replica.store }
         ensures schema { self.new.replica.schema ≡ self.old.replica.schema }
@@ -326,23 +326,23 @@ impl<D: DocStore> SyncClient<D> {
 
     /// The room's clock that it has reached, -1 before the first connection.
     pub fn reached(&self) -> i64
-        ensures { (held : Held) → Stands D.records held self.now → result ≡ held.client.reached }
+        ensures { (state : ClientState) → Stands D.records state self.now → result ≡ state.client.reached }
     {
         self.reached
     }
 
     /// How many works are pending: edits that the room hasn't answered, and presences that were set on this connection.
     pub fn owed(&self) -> usize
-        ensures { (held : Held) → Stands D.records held self.now
-            → result ≡ length held.client.pending }
+        ensures { (state : ClientState) → Stands D.records state self.now
+            → result ≡ length state.client.pending }
     {
         self.replica.len()
     }
 
     /// The presence of others, by id.
     pub fn others(&self) -> &Fields
-        ensures { (held : Held) → Stands D.records held self.now
-            → result.now ≡ records_with (presence_of self.now.replica) held.base }
+        ensures { (state : ClientState) → Stands D.records state self.now
+            → result.now ≡ records_with (presence_of self.now.replica) state.base }
     {
         self.replica.others()
     }
@@ -357,10 +357,10 @@ impl<D: DocStore> SyncClient<D> {
     /// The store, which has what the client shows: the base's document with the pending edits replayed.
     pub fn store(&self) -> &D
         ensures store { result.now ≡ self.now.replica.store }
-        ensures shown { (held : Held) → Stands D.records held self.now
+        ensures shown { (state : ClientState) → Stands D.records state self.now
             → D.records result.now
             ≡ documents.replay (admits_of self.now.replica) (records_with
-            (document_of self.now.replica) held.base) (pending_diffs held.client) }
+            (document_of self.now.replica) state.base) (pending_diffs state.client) }
     {
         self.replica.store()
     }
@@ -376,12 +376,12 @@ impl<D: DocStore> SyncClient<D> {
 
     // Has no session any more, and is refused for this reason, if there is one.
     fn leave(&mut self, alloc: Global, refused: Option<EndReason>)
-        ensures stands { (held : Held) → Stands D.records held self.old
+        ensures stands { (state : ClientState) → Stands D.records state self.old
             → Stands D.records (record {
               base = records_with
-                  (document_of self.old.replica) held.base;
+                  (document_of self.old.replica) state.base;
               client = record
-                  (after_cut held.client) { refused = refused };
+                  (after_cut state.client) { refused = refused };
             }) self.new }
         ensures store { self.new.replica.store ≡ self.old.replica.store }
         ensures schema { self.new.replica.schema ≡ self.old.replica.schema }
@@ -412,21 +412,21 @@ impl<D: DocStore> SyncClient<D> {
         clock: i64,
         steps: &mut Steps<L>,
     ) -> Mem<()>
-        ensures ok { OnOk result ((held : Held) (session : ℕ) → Stands D.records held self.old
-            → held.client.connection ≡ Connection.Asking session
+        ensures ok { OnOk result ((state : ClientState) (session : ℕ) → Stands D.records state self.old
+            → state.client.connection ≡ Connection.Asking session
             → Stands D.records (hydrated (admits_of self.old.replica)
-            (document_of self.old.replica) hydration diff.now clock held) self.new) }
-        ensures err { OnErr result ((held : Held) → Stands D.records held self.old
-            → Stands D.records held self.new) }
+            (document_of self.old.replica) hydration diff.now clock state) self.new) }
+        ensures err { OnErr result ((state : ClientState) → Stands D.records state self.old
+            → Stands D.records state self.new) }
         ensures schema { self.new.replica.schema ≡ self.old.replica.schema }
         ensures begun { D.begun self.new.replica.store ≡ D.begun self.old.replica.store }
         ensures rest { D.rest self.new.replica.store ≡ D.rest self.old.replica.store }
-        ensures ticks { (held : Held) → Stands D.records held self.old
-            → steps.new ≤ steps.old + (2 * operations (pending_diffs held.client) +
+        ensures ticks { (state : ClientState) → Stands D.records state self.old
+            → steps.new ≤ steps.old + (2 * operations (pending_diffs state.client) +
             (length diff.now + wiped hydration (records_with
-            (document_of self.old.replica) held.base))) }
-        ensures few { (held : Held) → Stands D.records held self.old
-            → steps.new ≤ steps.old + answer_steps (document_of self.old.replica) held hydration
+            (document_of self.old.replica) state.base))) }
+        ensures few { (state : ClientState) → Stands D.records state self.old
+            → steps.new ≤ steps.old + answer_steps (document_of self.old.replica) state hydration
             diff.now }
     {
         let own = Val::copy_slot(alloc, &self.presence)?;
@@ -445,33 +445,33 @@ impl<D: DocStore> SyncClient<D> {
         events: &Events,
         steps: &mut Steps<L>,
     ) -> Result<(), TakeFault>
-        ensures fault { (held : Held) → Stands D.records held self.old
+        ensures fault { (state : ClientState) → Stands D.records state self.old
             → Gives take_fault_is.OutOfMemory (λ done. done) result (option_map_or
             (λ fault. Err fault)
-            (faults.events_fault held.client.pending held.client.reached events.now) (Ok tt)) }
-        ensures ok { OnOk result ((held : Held) → Stands D.records held self.old
-            → is_open held.client.connection ≡ true
+            (faults.events_fault state.client.pending state.client.reached events.now) (Ok tt)) }
+        ensures ok { OnOk result ((state : ClientState) → Stands D.records state self.old
+            → is_open state.client.connection ≡ true
             → Stands D.records (updated (admits_of self.old.replica)
-            (document_of self.old.replica) events.now held) self.new) }
-        ensures err { OnErr result ((held : Held) → Stands D.records held self.old
-            → Stands D.records held self.new) }
+            (document_of self.old.replica) events.now state) self.new) }
+        ensures err { OnErr result ((state : ClientState) → Stands D.records state self.old
+            → Stands D.records state self.new) }
         ensures schema { self.new.replica.schema ≡ self.old.replica.schema }
         ensures begun { D.begun self.new.replica.store ≡ D.begun self.old.replica.store }
         ensures rest { D.rest self.new.replica.store ≡ D.rest self.old.replica.store }
-        ensures ticks { (held : Held) → Stands D.records held self.old
+        ensures ticks { (state : ClientState) → Stands D.records state self.old
             → steps.new ≤ steps.old + (2 * operations
-            (pending_diffs held.client) + brought events.now) }
-        ensures few { (held : Held) → Stands D.records held self.old
+            (pending_diffs state.client) + brought events.now) }
+        ensures few { (state : ClientState) → Stands D.records state self.old
             → steps.new ≤ steps.old + (brought events.now + 2 * operations (diffs_in
-            (take (ended events.now) (works_in held.client.pending)))) }
-        ensures own { OnOk result ((held : Held) → Stands D.records held self.old
+            (take (ended events.now) (works_in state.client.pending)))) }
+        ensures own { OnOk result ((state : ClientState) → Stands D.records state self.old
             → are_own (document_of self.old.replica)
-            (works_in held.client.pending) events.now ≡ true
+            (works_in state.client.pending) events.now ≡ true
             → (steps.new ≡ steps.old) × (self.new.replica.store ≡ self.old.replica.store)) }
     {
         let first = self.counts.first();
-        let held = self.reached;
-        let checked = check_events(events.as_slice(), first, self.counts.sent, held)?;
+        let state = self.reached;
+        let checked = check_events(events.as_slice(), first, self.counts.sent, state)?;
         self.replica.take_events(alloc, events, steps)?;
         self.counts.end(checked.ended);
         self.reached = checked.clock;

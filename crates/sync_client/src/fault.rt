@@ -24,7 +24,7 @@ pub enum TakeFault {
     /// It is a result where that of another push is expected: the expected number, and the one that came.
     #[error("the result of push {0} is expected, not of {1}")]
     WrongPending(i64, i64),
-    /// An event's clock lies below the one that was held: that one, and the event's.
+    /// An event's clock lies below the one that was reached: that one, and the event's.
     #[error("the clock goes back from {0} to {1}")]
     ClockBack(i64, i64),
     /// Memory was refused.

@@ -7,17 +7,17 @@ ghost use Rattle.room_model.specs.Replicas.{after_presence, after_snapshot};
 ghost use Rattle.room_model.specs.declared.connection.Connection.TheVariants.{Asking};
 ghost use Rattle.client_replica.specs.Standing.{document_of};
 ghost use Rattle.client_replica.specs.Stashes.{written_over};
-ghost use Rattle.sync_client.specs.Calls.{Held, after_answer};
+ghost use Rattle.sync_client.specs.Calls.{ClientState, after_answer};
 ghost use Rattle.sync_client.specs.Presences.{with_presence};
 ghost use Rattle.sync_client.specs.Standing.{Stands};
 ghost use Rattle.sync_client.specs.declared.client.SyncClient.{SyncClient};
 
 /// The base's document is what the store has with the stash written over it, so that a client needs no copy of it.
 pub fn bases_lie_under<D: Drop>()
-    ensures { (records : D → Pairs) (held : Held) (client : SyncClient D)
-        → Stands records held client
+    ensures { (records : D → Pairs) (state : ClientState) (client : SyncClient D)
+        → Stands records state client
         → written_over client.replica.stash (records client.replica.store)
-        ≡ records_with (document_of client.replica) held.base }
+        ≡ records_with (document_of client.replica) state.base }
 {}
 
 /// An answer makes of a client what the model's snapshot makes of it before it pushes.

@@ -32,7 +32,7 @@ use Rattle.side_effects.specs.Completed.{completed}
 use Rattle.side_effects.proofs.ActingLemmas.{completed_acts}
 use Rattle.side_effects.specs.declared.fault.EditFault.{EditFault}
 use Rattle.side_effects.specs.declared.fault.EditFault.TheVariants as edit
-use Rattle.sync_client.specs.Calls.{Held, pushed, after_message, replica_of}
+use Rattle.sync_client.specs.Calls.{ClientState, pushed, after_message, replica_of}
 use Rattle.sync_client.specs.Presences.{presence_fault, with_presence}
 use Rattle.sync_client.specs.Standing as client
 use Rattle.sync_client.specs.declared.client.SyncClient.{SyncClient}
@@ -50,70 +50,70 @@ use Rattle.sync_peer.specs.Calls.{records_of, shown, others_shown, completion, r
 use Rattle.sync_peer.specs.Standing.{Stands}
 use Rattle.sync_peer.specs.declared.peer.Peer.{Peer}
 
-module _ (schemas : WorldSchemas EditFault) (held : Held) (peer : Peer) (stands : Stands schemas held peer) where
-  abbrev decides : IsDecidedBy (schema_tree peer.client.replica.schema) (client_at held.client.version)
-  decides = decided_by held.client.version (schema_tree peer.client.replica.schema) stands.known stands.version
+module _ (schemas : WorldSchemas EditFault) (state : ClientState) (peer : Peer) (stands : Stands schemas state peer) where
+  abbrev decides : IsDecidedBy (schema_tree peer.client.replica.schema) (client_at state.client.version)
+  decides = decided_by state.client.version (schema_tree peer.client.replica.schema) stands.known stands.version
 
-  schema_is : schema_of schemas held.client ≡ client_at held.client.version
-  schema_is = ap (λ (x : WorldSchemas EditFault). x.client held.client.version) stands.tables.are
+  schema_is : schema_of schemas state.client ≡ client_at state.client.version
+  schema_is = ap (λ (x : WorldSchemas EditFault). x.client state.client.version) stands.tables.are
 
   -- what is decided for the client is what its schema decides
-  pub admits_are : (schema_of schemas held.client).admits ≡ admits_of peer.client.replica
+  pub admits_are : (schema_of schemas state.client).admits ≡ admits_of peer.client.replica
   admits_are = ap (λ (x : ClientSchema EditFault). x.admits) schema_is ∙ decides.admits
 
-  pub versions_are : (schema_of schemas held.client).versions ≡ newest_versions (schema_tree peer.client.replica.schema).sequences
+  pub versions_are : (schema_of schemas state.client).versions ≡ newest_versions (schema_tree peer.client.replica.schema).sequences
   versions_are = ap (λ (x : ClientSchema EditFault). x.versions) schema_is ∙ decides.versions
 
   pub document_is : schemas.room.is_document ≡ document_of peer.client.replica
   document_is =
       ap (λ (x : WorldSchemas EditFault). x.room.is_document) stands.tables.are
-      ∙ same_document stands.tables.room (schema_tree peer.client.replica.schema) stands.tables.version held.client.version stands.tables.at.types stands.version.types
+      ∙ same_document stands.tables.room (schema_tree peer.client.replica.schema) stands.tables.version state.client.version stands.tables.at.types stands.version.types
 
   pub presence_is : schemas.room.is_presence ≡ presence_of peer.client.replica
   presence_is =
       ap (λ (x : WorldSchemas EditFault). x.room.is_presence) stands.tables.are
-      ∙ same_presence stands.tables.room (schema_tree peer.client.replica.schema) stands.tables.version held.client.version stands.tables.at.types stands.version.types
+      ∙ same_presence stands.tables.room (schema_tree peer.client.replica.schema) stands.tables.version state.client.version stands.tables.at.types stands.version.types
 
   -- its store has what it shows
-  pub shown_is : shown schemas held ≡ records_of peer.client.replica.store
+  pub shown_is : shown schemas state ≡ records_of peer.client.replica.store
   shown_is =
-      (λ i. replay (admits_are i) (records_with (document_is i) held.base) (pending_diffs held.client))
-      ∙ sym (shows records_of held peer.client stands.client)
+      (λ i. replay (admits_are i) (records_with (document_is i) state.base) (pending_diffs state.client))
+      ∙ sym (shows records_of state peer.client stands.client)
 
-  pub others_are : others_shown schemas held ≡ records_with (presence_of peer.client.replica) held.base
-  others_are = ap (λ test. records_with test held.base) presence_is
+  pub others_are : others_shown schemas state ≡ records_with (presence_of peer.client.replica) state.base
+  others_are = ap (λ test. records_with test state.base) presence_is
 
   -- an edit is completed by its schema
   pub completion_is : (wanted : RecordOps) → AreRising wanted
-      → completion schemas held wanted ≡ completed (schema_tree peer.client.replica.schema) (records_of peer.client.replica.store) wanted
+      → completion schemas state wanted ≡ completed (schema_tree peer.client.replica.schema) (records_of peer.client.replica.store) wanted
   completion_is wanted rising =
-      ap (λ (x : ClientSchema EditFault). x.complete (shown schemas held) wanted) schema_is
-      ∙ ap (λ m. (client_at held.client.version).complete m wanted) shown_is
+      ap (λ (x : ClientSchema EditFault). x.complete (shown schemas state) wanted) schema_is
+      ∙ ap (λ m. (client_at state.client.version).complete m wanted) shown_is
       ∙ decides.completes (records_of peer.client.replica.store) wanted rising
 
   pub completed_at : (wanted : RecordOps) → AreRising wanted → (schema : Schema) (store : Seen)
-      → schema ≡ peer.client.replica.schema → store ≡ peer.client.replica.store → completion schemas held wanted ≡ completed (schema_tree schema) (records_of store) wanted
+      → schema ≡ peer.client.replica.schema → store ≡ peer.client.replica.store → completion schemas state wanted ≡ completed (schema_tree schema) (records_of store) wanted
   completed_at wanted rising schema store schema_same store_same =
       completion_is wanted rising ∙ sym (λ i. completed (schema_tree (schema_same i)) (records_of (store_same i)) wanted)
 
   -- and a presence is refused by it
-  pub refusal_is : (d : Data) → refusal schemas held d ≡ option_map edit_fault_of (presence_fault (schema_tree peer.client.replica.schema) d)
+  pub refusal_is : (d : Data) → refusal schemas state d ≡ option_map edit_fault_of (presence_fault (schema_tree peer.client.replica.schema) d)
   refusal_is d = ap (λ (x : ClientSchema EditFault). x.presence_fault d) schema_is ∙ decides.refuses d
 
   -- a peer stands for a client of the same version if its client does, and its schema stays
-  pub stands_on : (after : Held) (other : Peer) → after.client.version ≡ held.client.version → other.client.replica.schema ≡ peer.client.replica.schema
+  pub stands_on : (after : ClientState) (other : Peer) → after.client.version ≡ state.client.version → other.client.replica.schema ≡ peer.client.replica.schema
       → client.Stands records_of after other.client → marks.Stands after.client.marks other.marks → Stands schemas after other
   stands_on after other same schema is marked = record {
     tables = stands.tables;
     known = subst IsVersion (sym same) stands.known;
     version = subst (λ n. IsSchemaAt n (schema_tree other.client.replica.schema)) (sym same)
-        (subst (λ (s : Schema). IsSchemaAt held.client.version (schema_tree s)) (sym schema) stands.version);
+        (subst (λ (s : Schema). IsSchemaAt state.client.version (schema_tree s)) (sym schema) stands.version);
     client = is;
     marks = marked;
   }
 
   -- the inverse of what acts in its store is that of what acts in what it shows
-  pub back_is : (diff : RecordOps) → inverse_diff (admits_of peer.client.replica) (records_of peer.client.replica.store) diff ≡ back_of schemas held diff
+  pub back_is : (diff : RecordOps) → inverse_diff (admits_of peer.client.replica) (records_of peer.client.replica.store) diff ≡ back_of schemas state diff
   back_is diff = sym (λ i. inverse_diff (admits_are i) (shown_is i) diff)
 
 -- each patch of what an edit is completed to acts
@@ -124,8 +124,8 @@ completed_at_acts replica schema store wanted diff schema_same store_same is = �
     (sym (λ i. completed (schema_tree (schema_same i)) (records_of (store_same i)) wanted) ∙ is)
 
 -- a client by itself knows no marks
-pub marks_free : (m : Marks) (held : Held) (c : SyncClient Seen) → client.Stands records_of held c → client.Stands records_of (with_marks m held) c
-marks_free m held c is = record {
+pub marks_free : (m : Marks) (state : ClientState) (c : SyncClient Seen) → client.Stands records_of state c → client.Stands records_of (with_marks m state) c
+marks_free m state c is = record {
   replica = is.replica;
   connection = is.connection;
   reached = is.reached;
@@ -147,12 +147,12 @@ diff_marks [] c = refl
 diff_marks (d ∷ diff) c = refl
 
 -- a peer stands for a client for which such a diff was done
-pub marked : (schemas : WorldSchemas EditFault) (held : Held) (old other : Peer) → Stands schemas held old → (diff : RecordOps) (m : Marks) → other.client.replica.schema ≡ old.client.replica.schema
-    → ((held : Held) → client.Stands records_of held old.client → client.Stands records_of (record held { client = with_diff diff held.client }) other.client) → marks.Stands m other.marks
-    → Stands schemas (with_marked diff m held) other
-marked schemas held old other stands diff m schema done is =
-    stands_on schemas held old stands (with_marked diff m held) other (diff_version diff (with_marks m held).client) schema (done (with_marks m held) (marks_free m held old.client stands.client))
-    (subst (λ n. marks.Stands n other.marks) (sym (diff_marks diff (with_marks m held).client)) is)
+pub marked : (schemas : WorldSchemas EditFault) (state : ClientState) (old other : Peer) → Stands schemas state old → (diff : RecordOps) (m : Marks) → other.client.replica.schema ≡ old.client.replica.schema
+    → ((state : ClientState) → client.Stands records_of state old.client → client.Stands records_of (record state { client = with_diff diff state.client }) other.client) → marks.Stands m other.marks
+    → Stands schemas (with_marked diff m state) other
+marked schemas state old other stands diff m schema done is =
+    stands_on schemas state old stands (with_marked diff m state) other (diff_version diff (with_marks m state).client) schema (done (with_marks m state) (marks_free m state old.client stands.client))
+    (subst (λ n. marks.Stands n other.marks) (sym (diff_marks diff (with_marks m state).client)) is)
 
 pub bail_found : (o : Option RecordOps) (d : RecordOps) → option_map_or (λ diff. Ok diff) o (Err NoMark) ≡ Ok d → o ≡ Some d
 bail_found None d is = absurd (cc)
@@ -182,15 +182,15 @@ end_marks InvalidRecord c = refl
 end_marks RoomFull c = refl
 end_marks Slow c = refl
 
-pub message_marks : (admits : List ℕ → Data → Bool) (is_doc : List ℕ → Bool) (held : Held) (said : ServerMessage) → (after_message admits is_doc held said).client.marks ≡ held.client.marks
-message_marks admits is_doc held (message.Connect hydration request protocol versions diff clock readonly) = refl
-message_marks admits is_doc held (message.Data events) = refl
-message_marks admits is_doc held message.Pong = refl
+pub message_marks : (admits : List ℕ → Data → Bool) (is_doc : List ℕ → Bool) (state : ClientState) (said : ServerMessage) → (after_message admits is_doc state said).client.marks ≡ state.client.marks
+message_marks admits is_doc state (message.Connect hydration request protocol versions diff clock readonly) = refl
+message_marks admits is_doc state (message.Data events) = refl
+message_marks admits is_doc state message.Pong = refl
 
-pub message_version : (admits : List ℕ → Data → Bool) (is_doc : List ℕ → Bool) (held : Held) (said : ServerMessage) → (after_message admits is_doc held said).client.version ≡ held.client.version
-message_version admits is_doc held (message.Connect hydration request protocol versions diff clock readonly) = refl
-message_version admits is_doc held (message.Data events) = refl
-message_version admits is_doc held message.Pong = refl
+pub message_version : (admits : List ℕ → Data → Bool) (is_doc : List ℕ → Bool) (state : ClientState) (said : ServerMessage) → (after_message admits is_doc state said).client.version ≡ state.client.version
+message_version admits is_doc state (message.Connect hydration request protocol versions diff clock readonly) = refl
+message_version admits is_doc state (message.Data events) = refl
+message_version admits is_doc state message.Pong = refl
 
 pub end_version : (reason : EndReason) (c : Client) → (after_end reason c).version ≡ c.version
 end_version ClientTooOld c = refl
@@ -218,9 +218,9 @@ refused (Ok done) answer fault is given = absurd (let no : false ≡ true = is.0
 refused (Err e) answer fault is given = λ other. given (λ same. other (is.1 ∙ same)) ∙ ap Err (sym is.1)
 
 -- a peer still stands for what it stood for where its store has the same records
-pub still_stands : (schemas : WorldSchemas EditFault) (held : Held) (peer : Peer) (store : Seen) → Stands schemas held peer → records_of store ≡ records_of peer.client.replica.store
-    → Stands schemas held (record peer { client = record peer.client { replica = record peer.client.replica { store = store } } })
-still_stands schemas held peer store stands same =
+pub still_stands : (schemas : WorldSchemas EditFault) (state : ClientState) (peer : Peer) (store : Seen) → Stands schemas state peer → records_of store ≡ records_of peer.client.replica.store
+    → Stands schemas state (record peer { client = record peer.client { replica = record peer.client.replica { store = store } } })
+still_stands schemas state peer store stands same =
     let is = stands.client in
     let r = peer.client.replica in
     record {
@@ -228,7 +228,7 @@ still_stands schemas held peer store stands same =
       known = stands.known;
       version = stands.version;
       client = record {
-        replica = (subst (λ m. IsReplica (schema_tree r.schema) m (map work_of r.works.items) r.stash r.others (replica_of held)) (sym same) is.replica.0, is.replica.1);
+        replica = (subst (λ m. IsReplica (schema_tree r.schema) m (map work_of r.works.items) r.stash r.others (replica_of state)) (sym same) is.replica.0, is.replica.1);
         connection = is.connection;
         reached = is.reached;
         presence = is.presence;

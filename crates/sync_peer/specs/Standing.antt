@@ -5,7 +5,7 @@ use Rattle.schema_core.specs.SchemaOf.{schema_tree}
 use Rattle.room_model.specs.Schemas.{WorldSchemas}
 use Rattle.side_effects.specs.declared.fault.EditFault.{EditFault}
 use Rattle.tl_tables.specs.Tables.{IsVersion, IsSchemaAt}
-use Rattle.sync_client.specs.Calls.{Held}
+use Rattle.sync_client.specs.Calls.{ClientState}
 use Rattle.sync_client.specs.Standing as client
 use Rattle.undo_marks.specs.Standing as marks
 use Rattle.peer_schemas.specs.Clients.{AreOfTables}
@@ -13,15 +13,15 @@ use Rattle.sync_peer.specs.Calls.{records_of, edited}
 use Rattle.sync_peer.specs.declared.peer.Peer.{Peer}
 
 -- a peer stands for a client with its base, by what the tables decide
-pub record Stands (schemas : WorldSchemas EditFault) (held : Held) (peer : Peer) : Type 0 where
+pub record Stands (schemas : WorldSchemas EditFault) (state : ClientState) (peer : Peer) : Type 0 where
   pub tables : AreOfTables schemas
   -- its schema is that of the client's version
-  pub known : IsVersion held.client.version
-  pub version : IsSchemaAt held.client.version (schema_tree peer.client.replica.schema)
-  pub client : client.Stands records_of held peer.client
-  pub marks : marks.Stands held.client.marks peer.marks
+  pub known : IsVersion state.client.version
+  pub version : IsSchemaAt state.client.version (schema_tree peer.client.replica.schema)
+  pub client : client.Stands records_of state peer.client
+  pub marks : marks.Stands state.client.marks peer.marks
 
 -- a peer stands for a client with a further edit, which was completed
-abbrev pub Edits : WorldSchemas EditFault → Held → Result RecordOps EditFault → Peer → Type 0
-Edits schemas held (Ok diff) peer = Stands schemas (edited schemas diff held) peer
-Edits schemas held (Err fault) peer = ⊥
+abbrev pub Edits : WorldSchemas EditFault → ClientState → Result RecordOps EditFault → Peer → Type 0
+Edits schemas state (Ok diff) peer = Stands schemas (edited schemas diff state) peer
+Edits schemas state (Err fault) peer = ⊥

@@ -10,7 +10,7 @@ ghost use Rattle.room_model.specs.Replicas.{schema_of, pending_diffs, new_client
 ghost use Rattle.room_model.specs.Worlds.{map_val};
 ghost use Rattle.room_model.specs.declared.fault.ConnectFault.TheVariants as connect_fault;
 ghost use Rattle.client_replica.specs.Works.{operations};
-ghost use Rattle.sync_client.specs.Calls.{Held, connect_answer, asking, pushed, after_message, message_steps};
+ghost use Rattle.sync_client.specs.Calls.{ClientState, connect_answer, asking, pushed, after_message, message_steps};
 ghost use Rattle.sync_client.specs.Faults.{take_fault};
 ghost use Rattle.sync_client.specs.Presences.{with_presence};
 ghost use Rattle.sync_client.specs.declared.fault.TakeFault.TheVariants as take_fault_is;
@@ -94,15 +94,15 @@ impl Peer {
         wanted: &Diff,
         steps: &mut Steps<L>,
     ) -> Result<(), EditFault>
-        ensures fault { (schemas : WorldSchemas EditFault) (held : Held)
-            → Stands schemas held self.old
+        ensures fault { (schemas : WorldSchemas EditFault) (state : ClientState)
+            → Stands schemas state self.old
             → Gives edit_fault.OutOfMemory
-            (λ done. done) result (done_by (completion schemas held wanted.now)) }
-        ensures ok { OnOk result ((schemas : WorldSchemas EditFault) (held : Held)
-            → Stands schemas held self.old
-            → Edits schemas held (completion schemas held wanted.now) self.new) }
-        ensures err { OnErr result ((schemas : WorldSchemas EditFault) (held : Held)
-            → Stands schemas held self.old → Stands schemas held self.new) }
+            (λ done. done) result (done_by (completion schemas state wanted.now)) }
+        ensures ok { OnOk result ((schemas : WorldSchemas EditFault) (state : ClientState)
+            → Stands schemas state self.old
+            → Edits schemas state (completion schemas state wanted.now) self.new) }
+        ensures err { OnErr result ((schemas : WorldSchemas EditFault) (state : ClientState)
+            → Stands schemas state self.old → Stands schemas state self.new) }
         ensures views { WatchAlike (store_of self.old) (store_of self.new) }
     {
         tell_rising(wanted);
@@ -116,11 +116,11 @@ impl Peer {
 
     /// Makes a mark, to which an undo or a bail goes back. Where memory is refused nothing changes.
     pub fn mark(&mut self, name: Text) -> Mem<()>
-        ensures ok { OnOk result ((schemas : WorldSchemas EditFault) (held : Held)
-            → Stands schemas held self.old
-            → Stands schemas (with_marks (after_mark name held.client.marks) held) self.new) }
-        ensures err { OnErr result ((schemas : WorldSchemas EditFault) (held : Held)
-            → Stands schemas held self.old → Stands schemas held self.new) }
+        ensures ok { OnOk result ((schemas : WorldSchemas EditFault) (state : ClientState)
+            → Stands schemas state self.old
+            → Stands schemas (with_marks (after_mark name state.client.marks) state) self.new) }
+        ensures err { OnErr result ((schemas : WorldSchemas EditFault) (state : ClientState)
+            → Stands schemas state self.old → Stands schemas state self.new) }
         ensures store { store_of self.new ≡ store_of self.old }
     {
         self.marks.mark(name)
@@ -130,12 +130,12 @@ impl Peer {
     /// empty; what others did since stays. Returns whether there was an edit to take back. It costs what the diff names.
     /// Where memory is refused the peer is as before.
     pub fn undo<L: Ledger>(&mut self, alloc: Global, steps: &mut Steps<L>) -> Mem<bool>
-        ensures answer { IfOk result (λ done. (schemas : WorldSchemas EditFault) (held : Held)
-            → Stands schemas held self.old → done ≡ is_some (undo_diff held.client.marks)) }
-        ensures ok { OnOk result ((schemas : WorldSchemas EditFault) (held : Held)
-            → Stands schemas held self.old → Stands schemas (undone schemas held) self.new) }
-        ensures err { OnErr result ((schemas : WorldSchemas EditFault) (held : Held)
-            → Stands schemas held self.old → Stands schemas held self.new) }
+        ensures answer { IfOk result (λ done. (schemas : WorldSchemas EditFault) (state : ClientState)
+            → Stands schemas state self.old → done ≡ is_some (undo_diff state.client.marks)) }
+        ensures ok { OnOk result ((schemas : WorldSchemas EditFault) (state : ClientState)
+            → Stands schemas state self.old → Stands schemas (undone schemas state) self.new) }
+        ensures err { OnErr result ((schemas : WorldSchemas EditFault) (state : ClientState)
+            → Stands schemas state self.old → Stands schemas state self.new) }
         ensures views { WatchAlike (store_of self.old) (store_of self.new) }
     {
         let Some(diff) = self.marks.undo(alloc)? else {
@@ -150,12 +150,12 @@ impl Peer {
     /// empty. Returns whether there was something to do again. It costs what the diff names. Where memory is refused the
     /// peer is as before.
     pub fn redo<L: Ledger>(&mut self, alloc: Global, steps: &mut Steps<L>) -> Mem<bool>
-        ensures answer { IfOk result (λ done. (schemas : WorldSchemas EditFault) (held : Held)
-            → Stands schemas held self.old → done ≡ is_some (redo_diff held.client.marks)) }
-        ensures ok { OnOk result ((schemas : WorldSchemas EditFault) (held : Held)
-            → Stands schemas held self.old → Stands schemas (redone schemas held) self.new) }
-        ensures err { OnErr result ((schemas : WorldSchemas EditFault) (held : Held)
-            → Stands schemas held self.old → Stands schemas held self.new) }
+        ensures answer { IfOk result (λ done. (schemas : WorldSchemas EditFault) (state : ClientState)
+            → Stands schemas state self.old → done ≡ is_some (redo_diff state.client.marks)) }
+        ensures ok { OnOk result ((schemas : WorldSchemas EditFault) (state : ClientState)
+            → Stands schemas state self.old → Stands schemas (redone schemas state) self.new) }
+        ensures err { OnErr result ((schemas : WorldSchemas EditFault) (state : ClientState)
+            → Stands schemas state self.old → Stands schemas state self.new) }
         ensures views { WatchAlike (store_of self.old) (store_of self.new) }
     {
         let Some(diff) = self.marks.redo(alloc)? else {
@@ -177,15 +177,15 @@ impl Peer {
         name: &str,
         steps: &mut Steps<L>,
     ) -> Result<(), BailFault>
-        ensures fault { (schemas : WorldSchemas EditFault) (held : Held)
-            → Stands schemas held self.old
+        ensures fault { (schemas : WorldSchemas EditFault) (state : ClientState)
+            → Stands schemas state self.old
             → Gives bail_fault.OutOfMemory
-            (λ done. done) result (bail_done name.now held.client.marks) }
-        ensures ok { OnOk result ((schemas : WorldSchemas EditFault) (held : Held)
-            → Stands schemas held self.old
-            → Stands schemas (bailed schemas name.now held) self.new) }
-        ensures err { OnErr result ((schemas : WorldSchemas EditFault) (held : Held)
-            → Stands schemas held self.old → Stands schemas held self.new) }
+            (λ done. done) result (bail_done name.now state.client.marks) }
+        ensures ok { OnOk result ((schemas : WorldSchemas EditFault) (state : ClientState)
+            → Stands schemas state self.old
+            → Stands schemas (bailed schemas name.now state) self.new) }
+        ensures err { OnErr result ((schemas : WorldSchemas EditFault) (state : ClientState)
+            → Stands schemas state self.old → Stands schemas state self.new) }
         ensures views { WatchAlike (store_of self.old) (store_of self.new) }
     {
         let diff = self.marks.bail(alloc, name)?;
@@ -201,16 +201,16 @@ impl Peer {
     /// `WrongScope` exactly where the record's id, which is given, isn't one of a presence; else `Invalid` exactly where the
     /// record isn't admitted under it, with the cause; or `OutOfMemory`. Then the peer is as before.
     pub fn presence(&mut self, alloc: Global, stored: Val) -> Result<(), PresenceFault>
-        ensures fault { (schemas : WorldSchemas EditFault) (held : Held)
-            → Stands schemas held self.old
+        ensures fault { (schemas : WorldSchemas EditFault) (state : ClientState)
+            → Stands schemas state self.old
             → Gives edit_fault.OutOfMemory
-            (λ done. done) (as_edit result) (done_unless (refusal schemas held (data_of stored))) }
-        ensures ok { OnOk result ((schemas : WorldSchemas EditFault) (held : Held)
-            → Stands schemas held self.old → Stands schemas (record held {
-              client = with_presence (data_of stored) held.client;
+            (λ done. done) (as_edit result) (done_unless (refusal schemas state (data_of stored))) }
+        ensures ok { OnOk result ((schemas : WorldSchemas EditFault) (state : ClientState)
+            → Stands schemas state self.old → Stands schemas (record state {
+              client = with_presence (data_of stored) state.client;
             }) self.new) }
-        ensures err { OnErr result ((schemas : WorldSchemas EditFault) (held : Held)
-            → Stands schemas held self.old → Stands schemas held self.new) }
+        ensures err { OnErr result ((schemas : WorldSchemas EditFault) (state : ClientState)
+            → Stands schemas state self.old → Stands schemas state self.new) }
         ensures store { store_of self.new ≡ store_of self.old }
     {
         self.client.presence(alloc, stored)
@@ -222,13 +222,13 @@ impl Peer {
     /// `AlreadyOpen` exactly where it has asked before or is connected; `Refused` exactly where the room ended a session of
     /// it for another reason than `Slow`, which is given; or `OutOfMemory`. Then the peer is as before.
     pub fn connect(&mut self, alloc: Global, request: u64) -> Result<ClientMessage, ConnectFault>
-        ensures answer { (schemas : WorldSchemas EditFault) (held : Held)
-            → Stands schemas held self.old
+        ensures answer { (schemas : WorldSchemas EditFault) (state : ClientState)
+            → Stands schemas state self.old
             → Gives connect_fault.OutOfMemory (λ said. said) result (connect_answer
-            (schema_of schemas held.client).versions request held.client) }
-        ensures ok { OnOk result ((schemas : WorldSchemas EditFault) (held : Held)
-            → Stands schemas held self.old
-            → Stands schemas (record held { client = asking request held.client }) self.new) }
+            (schema_of schemas state.client).versions request state.client) }
+        ensures ok { OnOk result ((schemas : WorldSchemas EditFault) (state : ClientState)
+            → Stands schemas state self.old
+            → Stands schemas (record state { client = asking request state.client }) self.new) }
         ensures err { OnErr result (self.new ≡ self.old) }
         ensures store { store_of self.new ≡ store_of self.old }
     {
@@ -239,12 +239,12 @@ impl Peer {
     /// was sent, or its pushes have reached 2^53 - 1. It costs a copy of the work. Where memory is refused the peer is as
     /// before.
     pub fn next_push(&mut self, alloc: Global) -> Mem<Option<ClientMessage>>
-        ensures push { IfOk result (λ push. (schemas : WorldSchemas EditFault) (held : Held)
-            → Stands schemas held self.old
-            → option_to_list push ≡ (pushed held.client).messages) }
-        ensures ok { OnOk result ((schemas : WorldSchemas EditFault) (held : Held)
-            → Stands schemas held self.old
-            → Stands schemas (record held { client = (pushed held.client).client }) self.new) }
+        ensures push { IfOk result (λ push. (schemas : WorldSchemas EditFault) (state : ClientState)
+            → Stands schemas state self.old
+            → option_to_list push ≡ (pushed state.client).messages) }
+        ensures ok { OnOk result ((schemas : WorldSchemas EditFault) (state : ClientState)
+            → Stands schemas state self.old
+            → Stands schemas (record state { client = (pushed state.client).client }) self.new) }
         ensures err { OnErr result (self.new ≡ self.old) }
         ensures store { store_of self.new ≡ store_of self.old }
     {
@@ -272,20 +272,20 @@ impl Peer {
         message: &ServerMessage,
         steps: &mut Steps<L>,
     ) -> Result<(), TakeFault>
-        ensures fault { (schemas : WorldSchemas EditFault) (held : Held)
-            → Stands schemas held self.old
+        ensures fault { (schemas : WorldSchemas EditFault) (state : ClientState)
+            → Stands schemas state self.old
             → Gives take_fault_is.OutOfMemory (λ done. done) result (option_map_or
-            (λ fault. Err fault) (take_fault held.client message.now) (Ok tt)) }
-        ensures ok { OnOk result ((schemas : WorldSchemas EditFault) (held : Held)
-            → Stands schemas held self.old
-            → Stands schemas (after_message (schema_of schemas held.client).admits
-            schemas.room.is_document held message.now) self.new) }
-        ensures err { OnErr result ((schemas : WorldSchemas EditFault) (held : Held)
-            → Stands schemas held self.old → Stands schemas held self.new) }
-        ensures ticks { (schemas : WorldSchemas EditFault) (held : Held)
-            → Stands schemas held self.old
-            → steps.new ≤ steps.old + (2 * operations (pending_diffs held.client) + message_steps
-            schemas.room.is_document held.base message.now) }
+            (λ fault. Err fault) (take_fault state.client message.now) (Ok tt)) }
+        ensures ok { OnOk result ((schemas : WorldSchemas EditFault) (state : ClientState)
+            → Stands schemas state self.old
+            → Stands schemas (after_message (schema_of schemas state.client).admits
+            schemas.room.is_document state message.now) self.new) }
+        ensures err { OnErr result ((schemas : WorldSchemas EditFault) (state : ClientState)
+            → Stands schemas state self.old → Stands schemas state self.new) }
+        ensures ticks { (schemas : WorldSchemas EditFault) (state : ClientState)
+            → Stands schemas state self.old
+            → steps.new ≤ steps.old + (2 * operations (pending_diffs state.client) + message_steps
+            schemas.room.is_document state.base message.now) }
         ensures views { WatchAlike (store_of self.old) (store_of self.new) }
     {
         self.client.take(alloc, message, steps)
@@ -294,11 +294,11 @@ impl Peer {
     /// Learns that its connection is lost: its edits stay pending and are to be pushed again, its presence isn't pending
     /// any more, and those of others are gone. It takes no memory.
     pub fn lost(&mut self, alloc: Global)
-        ensures stands { (schemas : WorldSchemas EditFault) (held : Held)
-            → Stands schemas held self.old
+        ensures stands { (schemas : WorldSchemas EditFault) (state : ClientState)
+            → Stands schemas state self.old
             → Stands schemas (record {
-              base = records_with schemas.room.is_document held.base;
-              client = after_cut held.client;
+              base = records_with schemas.room.is_document state.base;
+              client = after_cut state.client;
             }) self.new }
         ensures store { store_of self.new ≡ store_of self.old }
     {
@@ -308,11 +308,11 @@ impl Peer {
     /// Learns that the room ended its session: as `lost`, and after each reason but `Slow` it can't connect any more. It
     /// takes no memory.
     pub fn ended(&mut self, alloc: Global, reason: EndReason)
-        ensures stands { (schemas : WorldSchemas EditFault) (held : Held)
-            → Stands schemas held self.old
+        ensures stands { (schemas : WorldSchemas EditFault) (state : ClientState)
+            → Stands schemas state self.old
             → Stands schemas (record {
-              base = records_with schemas.room.is_document held.base;
-              client = after_end reason held.client;
+              base = records_with schemas.room.is_document state.base;
+              client = after_end reason state.client;
             }) self.new }
         ensures store { store_of self.new ≡ store_of self.old }
     {
@@ -321,16 +321,16 @@ impl Peer {
 
     /// The room's clock that it has reached, -1 before the first connection.
     pub fn reached(&self) -> i64
-        ensures { (schemas : WorldSchemas EditFault) (held : Held) → Stands schemas held self.now
-            → result ≡ held.client.reached }
+        ensures { (schemas : WorldSchemas EditFault) (state : ClientState) → Stands schemas state self.now
+            → result ≡ state.client.reached }
     {
         self.client.reached()
     }
 
     /// How many works are pending: edits that the room hasn't answered, and presences that were set on this connection.
     pub fn owed(&self) -> usize
-        ensures { (schemas : WorldSchemas EditFault) (held : Held) → Stands schemas held self.now
-            → result ≡ length held.client.pending }
+        ensures { (schemas : WorldSchemas EditFault) (state : ClientState) → Stands schemas state self.now
+            → result ≡ length state.client.pending }
     {
         self.client.owed()
     }
@@ -338,16 +338,16 @@ impl Peer {
     /// What the peer shows, as a map by id: the document of its base with its pending edits replayed. It costs a copy of
     /// all records.
     pub fn document(&self, alloc: Global) -> Mem<Val>
-        ensures { IfOk result (λ val. (schemas : WorldSchemas EditFault) (held : Held)
-            → Stands schemas held self.now → val ≡ map_val (shown schemas held)) }
+        ensures { IfOk result (λ val. (schemas : WorldSchemas EditFault) (state : ClientState)
+            → Stands schemas state self.now → val ≡ map_val (shown schemas state)) }
     {
         Ok(Val::Map(self.records(alloc)?))
     }
 
     /// The records that the peer shows, by id. It costs a copy of all records.
     pub fn records(&self, alloc: Global) -> Mem<Fields>
-        ensures { IfOk result (λ records. (schemas : WorldSchemas EditFault) (held : Held)
-            → Stands schemas held self.now → records ≡ shown schemas held) }
+        ensures { IfOk result (λ records. (schemas : WorldSchemas EditFault) (state : ClientState)
+            → Stands schemas state self.now → records ≡ shown schemas state) }
     {
         let store = self.client.store();
         let mut fields = Fields::new(alloc);
@@ -366,8 +366,8 @@ impl Peer {
 
     /// The presence of others, as a map by id. It costs a copy of it.
     pub fn others(&self, alloc: Global) -> Mem<Val>
-        ensures { IfOk result (λ val. (schemas : WorldSchemas EditFault) (held : Held)
-            → Stands schemas held self.now → val ≡ map_val (others_shown schemas held)) }
+        ensures { IfOk result (λ val. (schemas : WorldSchemas EditFault) (state : ClientState)
+            → Stands schemas state self.now → val ≡ map_val (others_shown schemas state)) }
     {
         Ok(Val::Map(self.client.others().copy(alloc)?))
     }
@@ -375,9 +375,9 @@ impl Peer {
     /// The ids of the records of a type that it shows and that meet a query, by id. It costs a walk over the ids, and a
     /// look-up and the query for each of the type.
     pub fn query(&self, alloc: Global, type_name: &str, query: &Query) -> Mem<Vec<Text>>
-        ensures { IfOk result (λ ids. (schemas : WorldSchemas EditFault) (held : Held)
-            → Stands schemas held self.now
-            → ids.items ≡ ids_meeting (shown schemas held) type_name.now query.now) }
+        ensures { IfOk result (λ ids. (schemas : WorldSchemas EditFault) (state : ClientState)
+            → Stands schemas state self.now
+            → ids.items ≡ ids_meeting (shown schemas state) type_name.now query.now) }
     {
         store_query::ids(alloc, query, self.client.store(), type_name, None)
     }
@@ -392,9 +392,9 @@ impl Peer {
             → IsWatching old new id.number view.now → Stand (watched self.new) new) }
         ensures full { (result ≡ Err watch_fault.Full) ↔ IsFull (watched self.old) }
         ensures err { OnErr result (watched self.new ≡ watched self.old) }
-        ensures stands { (schemas : WorldSchemas EditFault) (held : Held)
-            → Stands schemas held self.old
-            → Stands schemas held self.new }
+        ensures stands { (schemas : WorldSchemas EditFault) (state : ClientState)
+            → Stands schemas state self.old
+            → Stands schemas state self.new }
         ensures begun { begun (store_of self.new) ≡ begun (store_of self.old) }
     {
         live_views::watch(alloc, self.client.store_mut(), view)
@@ -409,17 +409,17 @@ impl Peer {
         alloc: Global,
         steps: &mut Steps<L>,
     ) -> Mem<Vec<(WatchId, Val)>>
-        ensures told { IfOk result (λ told. (schemas : WorldSchemas EditFault) (held : Held)
-            (ws : Watches) → Stands schemas held self.old → IsClosed self.old
+        ensures told { IfOk result (λ told. (schemas : WorldSchemas EditFault) (state : ClientState)
+            (ws : Watches) → Stands schemas state self.old → IsClosed self.old
             → Stand (watched self.old) ws
-            → by_number told.items ≡ news (shown schemas held) ws) }
-        ensures ok { OnOk result ((schemas : WorldSchemas EditFault) (held : Held) (ws : Watches)
-            → Stands schemas held self.old → IsClosed self.old → Stand (watched self.old) ws
-            → Stand (watched self.new) (all_told (shown schemas held) ws)) }
+            → by_number told.items ≡ news (shown schemas state) ws) }
+        ensures ok { OnOk result ((schemas : WorldSchemas EditFault) (state : ClientState) (ws : Watches)
+            → Stands schemas state self.old → IsClosed self.old → Stand (watched self.old) ws
+            → Stand (watched self.new) (all_told (shown schemas state) ws)) }
         ensures err { OnErr result (watched self.new ≡ watched self.old) }
-        ensures stands { (schemas : WorldSchemas EditFault) (held : Held)
-            → Stands schemas held self.old
-            → Stands schemas held self.new }
+        ensures stands { (schemas : WorldSchemas EditFault) (state : ClientState)
+            → Stands schemas state self.old
+            → Stands schemas state self.new }
         ensures begun { begun (store_of self.new) ≡ begun (store_of self.old) }
         ensures free { AreFreshIn (watched self.old) (store_of self.old).txn.graph.values
             → steps.new ≡ steps.old }
@@ -460,13 +460,13 @@ fn make<L: Ledger>(
     diff: Diff,
     steps: &mut Steps<L>,
 ) -> Mem<Diff>
-    ensures ok { OnOk result ((held : Held) → client_of.Stands records_of held client.old
+    ensures ok { OnOk result ((state : ClientState) → client_of.Stands records_of state client.old
         → client_of.Stands records_of
-        (record held { client = with_diff diff held.client }) client.new) }
+        (record state { client = with_diff diff state.client }) client.new) }
     ensures back { IfOk result (λ back. back ≡ inverse_diff
         (admits_of client.old.replica) (records_of client.old.replica.store) diff) }
-    ensures err { OnErr result ((held : Held) → client_of.Stands records_of held client.old
-        → client_of.Stands records_of held client.new) }
+    ensures err { OnErr result ((state : ClientState) → client_of.Stands records_of state client.old
+        → client_of.Stands records_of state client.new) }
     ensures schema { client.new.replica.schema ≡ client.old.replica.schema }
     ensures views { WatchAlike client.old.replica.store client.new.replica.store }
 {

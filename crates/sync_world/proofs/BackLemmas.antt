@@ -19,7 +19,7 @@ use Rattle.room_model.specs.declared.line.OutLine.{OutLine}
 use Rattle.room_model.specs.declared.line.OutLine.TheVariants as line
 use Rattle.room_model.specs.declared.fault.StepFault.TheVariants.{NoSuchClient, NoMark}
 use Rattle.side_effects.specs.declared.fault.EditFault.{EditFault}
-use Rattle.sync_client.specs.Calls.{Held}
+use Rattle.sync_client.specs.Calls.{ClientState}
 use Rattle.sync_peer.specs.Calls.{with_marks, with_diff, with_marked, back_of, undone, redone, bailed, bail_done}
 use Rattle.sync_peer.specs.Standing as peer_of
 use Rattle.sync_peer.specs.declared.peer.Peer.{Peer}
@@ -28,7 +28,7 @@ use Rattle.undo_marks.specs.declared.fault.BailFault.TheVariants as bail
 use Rattle.world_laws.specs.Queues.{queues_after}
 use Rattle.world_laws.proofs.LaterLemmas.{got_at}
 use Rattle.world_queues.specs.Queues.{to_client}
-use Rattle.sync_world.specs.Holding.{held_of}
+use Rattle.sync_world.specs.States.{client_state}
 use Rattle.sync_world.specs.Pushing.{push_more}
 use Rattle.sync_world.specs.Standing.{IsClient, Fits, Keeps}
 use Rattle.sync_world.specs.Answers.{Answers}
@@ -115,14 +115,14 @@ module _ (schemas : WorldSchemas EditFault) (w : model.World) (live : Live) (kee
   PushesMore owed new = (schemas : WorldSchemas EditFault) (world : model.World) (client : Client) → Fits schemas world mid → slice_get world.clients at ≡ Some client
       → Fits schemas (with_pushing at (push_more owed client) world) new
 
-  pub mark_done : (name : List ℕ) → ((schemas : WorldSchemas EditFault) (held : Held) → peer_of.Stands schemas held one.peer → peer_of.Stands schemas (with_marks (marks.after_mark name held.client.marks) held) after)
+  pub mark_done : (name : List ℕ) → ((schemas : WorldSchemas EditFault) (state : ClientState) → peer_of.Stands schemas state one.peer → peer_of.Stands schemas (with_marks (marks.after_mark name state.client.marks) state) after)
       → (lines : Vec OutLine) → lines.items ≡ [] → Answers schemas w (on_mark at name w) (Ok lines) mid
   mark_done name marked lines prints =
       let it = is_there schemas w live at at one keeps.fits refl less is in
       let c = it.client in
       let d : Client = record c { marks = marks.after_mark name c.marks } in
       let kept : IsClient schemas w.room.history d (record one { peer = after }) = record {
-        peer = subst (λ b. peer_of.Stands schemas (record { base = b; client = d }) after) (sym (base_alike schemas w.room.history c d refl refl refl)) (marked schemas (held_of schemas w.room.history c) it.kept.peer);
+        peer = subst (λ b. peer_of.Stands schemas (record { base = b; client = d }) after) (sym (base_alike schemas w.room.history c d refl refl refl)) (marked schemas (client_state schemas w.room.history c) it.kept.peer);
         session = it.kept.session;
         clip = it.kept.clip;
       } in
@@ -132,7 +132,7 @@ module _ (schemas : WorldSchemas EditFault) (w : model.World) (live : Live) (kee
   module _ (c : Client) (made : slice_get w.clients at ≡ Some c) (kept : IsClient schemas w.room.history c one) where
     -- a diff that marks gave was done, and is pushed
     went : (e : Event) (ls : List OutLine) (diff : RecordOps) (m : Marks) → after_event schemas false w e ≡ happens ls (with_pushing at (after_diff diff (record c { marks = m })) w)
-        → queues_after schemas w (to_client live.queues) e ≡ to_client live.queues → peer_of.Stands schemas (with_marked diff m (held_of schemas w.room.history c)) after
+        → queues_after schemas w (to_client live.queues) e ≡ to_client live.queues → peer_of.Stands schemas (with_marked diff m (client_state schemas w.room.history c)) after
         → (owed : ℕ) → owed ≡ length c.pending → (new : Live) → PushesMore owed new → to_client new.queues ≡ to_client mid.queues
         → (lines : Vec OutLine) → lines.items ≡ ls → Answers schemas w (after_event schemas false w e) (Ok lines) new
     went e ls diff m so still stands owed same new pushes given lines prints =
@@ -152,102 +152,102 @@ module _ (schemas : WorldSchemas EditFault) (w : model.World) (live : Live) (kee
 
     -- nothing was to be done
     stayed : (e : Event) (ls : List OutLine) → after_event schemas false w e ≡ happens ls w → queues_after schemas w (to_client live.queues) e ≡ to_client live.queues
-        → peer_of.Stands schemas (held_of schemas w.room.history c) after → (lines : Vec OutLine) → lines.items ≡ ls → Answers schemas w (after_event schemas false w e) (Ok lines) mid
+        → peer_of.Stands schemas (client_state schemas w.room.history c) after → (lines : Vec OutLine) → lines.items ≡ ls → Answers schemas w (after_event schemas false w e) (Ok lines) mid
     stayed e ls so still stands lines prints =
         let there = still_keeps schemas w live keeps at one less is after mid room queues set c made (record { peer = stands; session = kept.session; clip = kept.clip }) in
         happened schemas w w false e live mid ls lines keeps so prints there.fits (ap to_client queues ∙ sym still)
 
-    back_seen : (diff : RecordOps) → back_of schemas (held_of schemas w.room.history c) diff ≡ inverse_in schemas w c diff
+    back_seen : (diff : RecordOps) → back_of schemas (client_state schemas w.room.history c) diff ≡ inverse_in schemas w c diff
     back_seen diff = ap (λ m. inverse_diff (schema_of schemas c).admits m diff) (shown_is schemas w live keeps at c made)
 
-    undid : ((schemas : WorldSchemas EditFault) (held : Held) → peer_of.Stands schemas held one.peer → peer_of.Stands schemas (undone schemas held) after) → (diff : RecordOps) → marks.undo_diff c.marks ≡ Some diff
-        → peer_of.Stands schemas (with_marked diff (marks.after_undo (inverse_in schemas w c diff) c.marks) (held_of schemas w.room.history c)) after
+    undid : ((schemas : WorldSchemas EditFault) (state : ClientState) → peer_of.Stands schemas state one.peer → peer_of.Stands schemas (undone schemas state) after) → (diff : RecordOps) → marks.undo_diff c.marks ≡ Some diff
+        → peer_of.Stands schemas (with_marked diff (marks.after_undo (inverse_in schemas w c diff) c.marks) (client_state schemas w.room.history c)) after
     undid goes diff found =
-        let held = held_of schemas w.room.history c in
-        subst (λ b. peer_of.Stands schemas (with_marked diff (marks.after_undo b c.marks) held) after) (back_seen diff)
-        (subst (λ o. peer_of.Stands schemas (option_map_or (λ diff. with_marked diff (marks.after_undo (back_of schemas held diff) c.marks) held) o held) after) found (goes schemas held kept.peer))
+        let state = client_state schemas w.room.history c in
+        subst (λ b. peer_of.Stands schemas (with_marked diff (marks.after_undo b c.marks) state) after) (back_seen diff)
+        (subst (λ o. peer_of.Stands schemas (option_map_or (λ diff. with_marked diff (marks.after_undo (back_of schemas state diff) c.marks) state) o state) after) found (goes schemas state kept.peer))
 
-    redid : ((schemas : WorldSchemas EditFault) (held : Held) → peer_of.Stands schemas held one.peer → peer_of.Stands schemas (redone schemas held) after) → (diff : RecordOps) → marks.redo_diff c.marks ≡ Some diff
-        → peer_of.Stands schemas (with_marked diff (marks.after_redo (inverse_in schemas w c diff) c.marks) (held_of schemas w.room.history c)) after
+    redid : ((schemas : WorldSchemas EditFault) (state : ClientState) → peer_of.Stands schemas state one.peer → peer_of.Stands schemas (redone schemas state) after) → (diff : RecordOps) → marks.redo_diff c.marks ≡ Some diff
+        → peer_of.Stands schemas (with_marked diff (marks.after_redo (inverse_in schemas w c diff) c.marks) (client_state schemas w.room.history c)) after
     redid goes diff found =
-        let held = held_of schemas w.room.history c in
-        subst (λ b. peer_of.Stands schemas (with_marked diff (marks.after_redo b c.marks) held) after) (back_seen diff)
-        (subst (λ o. peer_of.Stands schemas (option_map_or (λ diff. with_marked diff (marks.after_redo (back_of schemas held diff) c.marks) held) o held) after) found (goes schemas held kept.peer))
+        let state = client_state schemas w.room.history c in
+        subst (λ b. peer_of.Stands schemas (with_marked diff (marks.after_redo b c.marks) state) after) (back_seen diff)
+        (subst (λ o. peer_of.Stands schemas (option_map_or (λ diff. with_marked diff (marks.after_redo (back_of schemas state diff) c.marks) state) o state) after) found (goes schemas state kept.peer))
 
-  pub undo_done : ((schemas : WorldSchemas EditFault) (held : Held) → peer_of.Stands schemas held one.peer → true ≡ is_some (marks.undo_diff held.client.marks))
-      → ((schemas : WorldSchemas EditFault) (held : Held) → peer_of.Stands schemas held one.peer → peer_of.Stands schemas (undone schemas held) after)
-      → (owed : ℕ) → ((schemas : WorldSchemas EditFault) (held : Held) → peer_of.Stands schemas held one.peer → owed ≡ length held.client.pending)
+  pub undo_done : ((schemas : WorldSchemas EditFault) (state : ClientState) → peer_of.Stands schemas state one.peer → true ≡ is_some (marks.undo_diff state.client.marks))
+      → ((schemas : WorldSchemas EditFault) (state : ClientState) → peer_of.Stands schemas state one.peer → peer_of.Stands schemas (undone schemas state) after)
+      → (owed : ℕ) → ((schemas : WorldSchemas EditFault) (state : ClientState) → peer_of.Stands schemas state one.peer → owed ≡ length state.client.pending)
       → (new : Live) → PushesMore owed new → to_client new.queues ≡ to_client mid.queues → (lines : Vec OutLine) → lines.items ≡ line.Undo at true ∷ [] → Answers schemas w (on_undo schemas at w) (Ok lines) new
   undo_done did goes owed owes new pushes given lines prints =
       let it = is_there schemas w live at at one keeps.fits refl less is in
       let c = it.client in
-      let held = held_of schemas w.room.history c in
-      let there = found (marks.undo_diff c.marks) (did schemas held it.kept.peer) in
+      let state = client_state schemas w.room.history c in
+      let there = found (marks.undo_diff c.marks) (did schemas state it.kept.peer) in
       let diff = there.0 in
       went c it.made it.kept (event.Undo at) (line.Undo at true ∷ []) diff (marks.after_undo (inverse_in schemas w c diff) c.marks)
       (if_some _ (slice_get w.clients at) (Err NoSuchClient) c it.made ∙ if_some _ (marks.undo_diff c.marks) (happens (line.Undo at false ∷ []) w) diff there.1) refl
-      (undid c it.made it.kept goes diff there.1) owed (owes schemas held it.kept.peer) new pushes given lines prints
+      (undid c it.made it.kept goes diff there.1) owed (owes schemas state it.kept.peer) new pushes given lines prints
 
-  pub undo_not_done : ((schemas : WorldSchemas EditFault) (held : Held) → peer_of.Stands schemas held one.peer → false ≡ is_some (marks.undo_diff held.client.marks))
-      → ((schemas : WorldSchemas EditFault) (held : Held) → peer_of.Stands schemas held one.peer → peer_of.Stands schemas (undone schemas held) after)
+  pub undo_not_done : ((schemas : WorldSchemas EditFault) (state : ClientState) → peer_of.Stands schemas state one.peer → false ≡ is_some (marks.undo_diff state.client.marks))
+      → ((schemas : WorldSchemas EditFault) (state : ClientState) → peer_of.Stands schemas state one.peer → peer_of.Stands schemas (undone schemas state) after)
       → (lines : Vec OutLine) → lines.items ≡ line.Undo at false ∷ [] → Answers schemas w (on_undo schemas at w) (Ok lines) mid
   undo_not_done did goes lines prints =
       let it = is_there schemas w live at at one keeps.fits refl less is in
       let c = it.client in
-      let held = held_of schemas w.room.history c in
-      let none = missing (marks.undo_diff c.marks) (did schemas held it.kept.peer) in
+      let state = client_state schemas w.room.history c in
+      let none = missing (marks.undo_diff c.marks) (did schemas state it.kept.peer) in
       stayed c it.made it.kept (event.Undo at) (line.Undo at false ∷ [])
       (if_some _ (slice_get w.clients at) (Err NoSuchClient) c it.made ∙ if_none _ (marks.undo_diff c.marks) (happens (line.Undo at false ∷ []) w) none) refl
-      (subst (λ o. peer_of.Stands schemas (option_map_or (λ diff. with_marked diff (marks.after_undo (back_of schemas held diff) c.marks) held) o held) after) none (goes schemas held it.kept.peer)) lines prints
+      (subst (λ o. peer_of.Stands schemas (option_map_or (λ diff. with_marked diff (marks.after_undo (back_of schemas state diff) c.marks) state) o state) after) none (goes schemas state it.kept.peer)) lines prints
 
-  pub redo_done : ((schemas : WorldSchemas EditFault) (held : Held) → peer_of.Stands schemas held one.peer → true ≡ is_some (marks.redo_diff held.client.marks))
-      → ((schemas : WorldSchemas EditFault) (held : Held) → peer_of.Stands schemas held one.peer → peer_of.Stands schemas (redone schemas held) after)
-      → (owed : ℕ) → ((schemas : WorldSchemas EditFault) (held : Held) → peer_of.Stands schemas held one.peer → owed ≡ length held.client.pending)
+  pub redo_done : ((schemas : WorldSchemas EditFault) (state : ClientState) → peer_of.Stands schemas state one.peer → true ≡ is_some (marks.redo_diff state.client.marks))
+      → ((schemas : WorldSchemas EditFault) (state : ClientState) → peer_of.Stands schemas state one.peer → peer_of.Stands schemas (redone schemas state) after)
+      → (owed : ℕ) → ((schemas : WorldSchemas EditFault) (state : ClientState) → peer_of.Stands schemas state one.peer → owed ≡ length state.client.pending)
       → (new : Live) → PushesMore owed new → to_client new.queues ≡ to_client mid.queues → (lines : Vec OutLine) → lines.items ≡ line.Redo at true ∷ [] → Answers schemas w (on_redo schemas at w) (Ok lines) new
   redo_done did goes owed owes new pushes given lines prints =
       let it = is_there schemas w live at at one keeps.fits refl less is in
       let c = it.client in
-      let held = held_of schemas w.room.history c in
-      let there = found (marks.redo_diff c.marks) (did schemas held it.kept.peer) in
+      let state = client_state schemas w.room.history c in
+      let there = found (marks.redo_diff c.marks) (did schemas state it.kept.peer) in
       let diff = there.0 in
       went c it.made it.kept (event.Redo at) (line.Redo at true ∷ []) diff (marks.after_redo (inverse_in schemas w c diff) c.marks)
       (if_some _ (slice_get w.clients at) (Err NoSuchClient) c it.made ∙ if_some _ (marks.redo_diff c.marks) (happens (line.Redo at false ∷ []) w) diff there.1) refl
-      (redid c it.made it.kept goes diff there.1) owed (owes schemas held it.kept.peer) new pushes given lines prints
+      (redid c it.made it.kept goes diff there.1) owed (owes schemas state it.kept.peer) new pushes given lines prints
 
-  pub redo_not_done : ((schemas : WorldSchemas EditFault) (held : Held) → peer_of.Stands schemas held one.peer → false ≡ is_some (marks.redo_diff held.client.marks))
-      → ((schemas : WorldSchemas EditFault) (held : Held) → peer_of.Stands schemas held one.peer → peer_of.Stands schemas (redone schemas held) after)
+  pub redo_not_done : ((schemas : WorldSchemas EditFault) (state : ClientState) → peer_of.Stands schemas state one.peer → false ≡ is_some (marks.redo_diff state.client.marks))
+      → ((schemas : WorldSchemas EditFault) (state : ClientState) → peer_of.Stands schemas state one.peer → peer_of.Stands schemas (redone schemas state) after)
       → (lines : Vec OutLine) → lines.items ≡ line.Redo at false ∷ [] → Answers schemas w (on_redo schemas at w) (Ok lines) mid
   redo_not_done did goes lines prints =
       let it = is_there schemas w live at at one keeps.fits refl less is in
       let c = it.client in
-      let held = held_of schemas w.room.history c in
-      let none = missing (marks.redo_diff c.marks) (did schemas held it.kept.peer) in
+      let state = client_state schemas w.room.history c in
+      let none = missing (marks.redo_diff c.marks) (did schemas state it.kept.peer) in
       stayed c it.made it.kept (event.Redo at) (line.Redo at false ∷ [])
       (if_some _ (slice_get w.clients at) (Err NoSuchClient) c it.made ∙ if_none _ (marks.redo_diff c.marks) (happens (line.Redo at false ∷ []) w) none) refl
-      (subst (λ o. peer_of.Stands schemas (option_map_or (λ diff. with_marked diff (marks.after_redo (back_of schemas held diff) c.marks) held) o held) after) none (goes schemas held it.kept.peer)) lines prints
+      (subst (λ o. peer_of.Stands schemas (option_map_or (λ diff. with_marked diff (marks.after_redo (back_of schemas state diff) c.marks) state) o state) after) none (goes schemas state it.kept.peer)) lines prints
 
-  pub bail_is_done : (name : List ℕ) → ((schemas : WorldSchemas EditFault) (held : Held) → peer_of.Stands schemas held one.peer → bail_done name held.client.marks ≡ Ok tt)
-      → ((schemas : WorldSchemas EditFault) (held : Held) → peer_of.Stands schemas held one.peer → peer_of.Stands schemas (bailed schemas name held) after)
-      → (owed : ℕ) → ((schemas : WorldSchemas EditFault) (held : Held) → peer_of.Stands schemas held one.peer → owed ≡ length held.client.pending)
+  pub bail_is_done : (name : List ℕ) → ((schemas : WorldSchemas EditFault) (state : ClientState) → peer_of.Stands schemas state one.peer → bail_done name state.client.marks ≡ Ok tt)
+      → ((schemas : WorldSchemas EditFault) (state : ClientState) → peer_of.Stands schemas state one.peer → peer_of.Stands schemas (bailed schemas name state) after)
+      → (owed : ℕ) → ((schemas : WorldSchemas EditFault) (state : ClientState) → peer_of.Stands schemas state one.peer → owed ≡ length state.client.pending)
       → (new : Live) → PushesMore owed new → to_client new.queues ≡ to_client mid.queues → (lines : Vec OutLine) → lines.items ≡ [] → Answers schemas w (on_bail schemas at name w) (Ok lines) new
   bail_is_done name did goes owed owes new pushes given lines prints =
       let it = is_there schemas w live at at one keeps.fits refl less is in
       let c = it.client in
-      let held = held_of schemas w.room.history c in
-      let there = bail_found (marks.bail_diff name c.marks) (did schemas held it.kept.peer) in
+      let state = client_state schemas w.room.history c in
+      let there = bail_found (marks.bail_diff name c.marks) (did schemas state it.kept.peer) in
       let diff = there.0 in
       went c it.made it.kept (event.Bail at name) [] diff (marks.after_bail name c.marks)
       (if_some _ (slice_get w.clients at) (Err NoSuchClient) c it.made ∙ if_some _ (marks.bail_diff name c.marks) (Err NoMark) diff there.1) refl
-      (subst (λ o. peer_of.Stands schemas (option_map_or (λ diff. with_marked diff (marks.after_bail name c.marks) held) o held) after) there.1 (goes schemas held it.kept.peer))
-      owed (owes schemas held it.kept.peer) new pushes given lines prints
+      (subst (λ o. peer_of.Stands schemas (option_map_or (λ diff. with_marked diff (marks.after_bail name c.marks) state) o state) after) there.1 (goes schemas state it.kept.peer))
+      owed (owes schemas state it.kept.peer) new pushes given lines prints
 
-  pub bail_refused : (name : List ℕ) → ((schemas : WorldSchemas EditFault) (held : Held) → peer_of.Stands schemas held one.peer → bail_done name held.client.marks ≡ Err bail.NoMark)
-      → ((schemas : WorldSchemas EditFault) (held : Held) → peer_of.Stands schemas held one.peer → peer_of.Stands schemas held after)
+  pub bail_refused : (name : List ℕ) → ((schemas : WorldSchemas EditFault) (state : ClientState) → peer_of.Stands schemas state one.peer → bail_done name state.client.marks ≡ Err bail.NoMark)
+      → ((schemas : WorldSchemas EditFault) (state : ClientState) → peer_of.Stands schemas state one.peer → peer_of.Stands schemas state after)
       → Answers schemas w (on_bail schemas at name w) (Err NoMark) mid
   bail_refused name refuses stays =
       let it = is_there schemas w live at at one keeps.fits refl less is in
       let c = it.client in
-      let held = held_of schemas w.room.history c in (
-        if_some _ (slice_get w.clients at) (Err NoSuchClient) c it.made ∙ if_none _ (marks.bail_diff name c.marks) (Err NoMark) (bail_none (marks.bail_diff name c.marks) (refuses schemas held it.kept.peer)),
-        still_keeps schemas w live keeps at one less is after mid room queues set c it.made (record { peer = stays schemas held it.kept.peer; session = it.kept.session; clip = it.kept.clip }),
+      let state = client_state schemas w.room.history c in (
+        if_some _ (slice_get w.clients at) (Err NoSuchClient) c it.made ∙ if_none _ (marks.bail_diff name c.marks) (Err NoMark) (bail_none (marks.bail_diff name c.marks) (refuses schemas state it.kept.peer)),
+        still_keeps schemas w live keeps at one less is after mid room queues set c it.made (record { peer = stays schemas state it.kept.peer; session = it.kept.session; clip = it.kept.clip }),
       )

@@ -2,7 +2,7 @@
 use Rattle.std.proofs.Common.{sym, ◌∙◌}
 use Rattle.world_laws.proofs.ShownLemmas.{shows_room}
 use Rattle.sync_peer.proofs.PeerLemmas as peers
-use Rattle.sync_world.specs.Holding.{held_of}
+use Rattle.sync_world.specs.States.{client_state}
 use Rattle.sync_world.specs.CaughtUp.{CaughtUpShowTheRoom}
 use Rattle.sync_world.specs.declared.world.World.{World}
 use Rattle.sync_world.proofs.ShowLemmas.{shown_is}
@@ -15,5 +15,5 @@ caught_up code schemas w number client kept stands there has now =
     record {
       plan = room.0;
       leads = room.1;
-      seen = sym (peers.shown_is schemas (held_of schemas w.room.history client) kept.peer is.peer) ∙ shown_is schemas w code.live keeps number client there ∙ room.2;
+      seen = sym (peers.shown_is schemas (client_state schemas w.room.history client) kept.peer is.peer) ∙ shown_is schemas w code.live keeps number client there ∙ room.2;
     }

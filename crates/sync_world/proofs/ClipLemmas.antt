@@ -20,13 +20,13 @@ use Rattle.clip_content.specs.View.{clip_tree, target_tree}
 use Rattle.clip_content.specs.declared.clip.Clip as code
 use Rattle.clip_content.specs.declared.target.Target.{Target}
 use Rattle.side_effects.specs.declared.fault.EditFault.{EditFault}
-use Rattle.sync_client.specs.Calls.{Held}
+use Rattle.sync_client.specs.Calls.{ClientState}
 use Rattle.sync_peer.specs.Calls.{shown}
 use Rattle.sync_peer.specs.Standing as peer_of
 use Rattle.sync_peer.specs.declared.peer.Peer.{Peer}
 use Rattle.world_queues.specs.Queues.{to_client}
 use Rattle.sync_world.specs.Clips.{IsCopyOf, IsPasteOf}
-use Rattle.sync_world.specs.Holding.{held_of}
+use Rattle.sync_world.specs.States.{client_state}
 use Rattle.sync_world.specs.Standing.{IsClient, Keeps}
 use Rattle.sync_world.specs.Answers.{Answers}
 use Rattle.sync_world.specs.declared.live.Live.{Live}
@@ -38,9 +38,9 @@ use Rattle.sync_world.proofs.EventLemmas.{IsThere, is_there}
 use Rattle.sync_world.proofs.ShowLemmas.{shown_is}
 
 -- a peer knows nothing of what its client copied
-clip_free : (schemas : WorldSchemas EditFault) (held : Held) (clip : Option ClipTree) (peer : Peer) → peer_of.Stands schemas held peer
-    → peer_of.Stands schemas (record held { client = record held.client { clip = clip } }) peer
-clip_free schemas held clip peer stands =
+clip_free : (schemas : WorldSchemas EditFault) (state : ClientState) (clip : Option ClipTree) (peer : Peer) → peer_of.Stands schemas state peer
+    → peer_of.Stands schemas (record state { client = record state.client { clip = clip } }) peer
+clip_free schemas state clip peer stands =
     let is = stands.client in
     record {
       tables = stands.tables;
@@ -66,7 +66,7 @@ module _ (schemas : WorldSchemas EditFault) (w : model.World) (live : Live) (kee
   it = is_there schemas w live at at one keeps.fits refl less is
 
   -- what a peer copies is what its client does
-  copied_is : (ids : List (List ℕ)) (o : Result ClipTree ClipFault) → taken (shown schemas (held_of schemas w.room.history it.client)) ids ≡ o → schemas.clips.copied (shown_in schemas w it.client) ids ≡ o
+  copied_is : (ids : List (List ℕ)) (o : Result ClipTree ClipFault) → taken (shown schemas (client_state schemas w.room.history it.client)) ids ≡ o → schemas.clips.copied (shown_in schemas w it.client) ids ≡ o
   copied_is ids o so =
       ap (λ (s : WorldSchemas EditFault). s.clips.copied (shown_in schemas w it.client) ids) keeps.fits.tables.are
       ∙ ap (λ m. taken m ids) (sym (shown_is schemas w live keeps at it.client it.made)) ∙ so
@@ -76,21 +76,21 @@ module _ (schemas : WorldSchemas EditFault) (w : model.World) (live : Live) (kee
       → Answers schemas w (on_copy schemas at ids w) (Ok lines) new
   copy_done ids clip is_copy new room queues set lines prints =
       let c = it.client in
-      let held = held_of schemas w.room.history c in
+      let state = client_state schemas w.room.history c in
       let d : Client = record c { clip = Some (clip_tree clip) } in
       let kept : IsClient schemas w.room.history d (record one { clip = Some clip }) = record {
         peer = subst (λ b. peer_of.Stands schemas (record { base = b; client = d }) one.peer) (sym (base_alike schemas w.room.history c d refl refl refl))
-            (clip_free schemas held (Some (clip_tree clip)) one.peer it.kept.peer);
+            (clip_free schemas state (Some (clip_tree clip)) one.peer it.kept.peer);
         session = it.kept.session;
         clip = refl;
       } in
       happened schemas w (with_client at d w) false (event.Copy at ids) live new [] lines keeps
-      (copies schemas w at c it.made ids (Ok (clip_tree clip)) (copied_is ids _ (is_copy schemas held it.kept.peer))) prints
+      (copies schemas w at c it.made ids (Ok (clip_tree clip)) (copied_is ids _ (is_copy schemas state it.kept.peer))) prints
       (fits_client schemas w live keeps.fits at d (record one { clip = Some clip }) new kept room queues set) (ap to_client queues)
 
   pub copy_refused : (ids : List (List ℕ)) (fault : ClipFault) → IsCopyOf one.peer ids (Err fault) → Answers schemas w (on_copy schemas at ids w) (Err (Clip fault)) live
   copy_refused ids fault is_copy = (
-    copies schemas w at it.client it.made ids (Err fault) (copied_is ids _ (is_copy schemas (held_of schemas w.room.history it.client) it.kept.peer)),
+    copies schemas w at it.client it.made ids (Err fault) (copied_is ids _ (is_copy schemas (client_state schemas w.room.history it.client) it.kept.peer)),
     keeps,
   )
 
@@ -103,7 +103,7 @@ module _ (schemas : WorldSchemas EditFault) (w : model.World) (live : Live) (kee
     pasted_is o is_paste =
         ap (λ (s : WorldSchemas EditFault). s.clips.pasted (clip_tree clip) (shown_in schemas w it.client) (target_tree target)) keeps.fits.tables.are
         ∙ ap (λ m. pasted (clip_tree clip) m (target_tree target)) (sym (shown_is schemas w live keeps at it.client it.made))
-        ∙ is_paste schemas (held_of schemas w.room.history it.client) it.kept.peer
+        ∙ is_paste schemas (client_state schemas w.room.history it.client) it.kept.peer
 
     its_clip : it.client.clip ≡ Some (clip_tree clip)
     its_clip = sym it.kept.clip ∙ ap (option_map clip_tree) has

@@ -21,7 +21,7 @@ use Rattle.room_model.specs.declared.line.OutLine.{OutLine}
 use Rattle.side_effects.specs.declared.fault.EditFault.{EditFault}
 use Rattle.sync_msgs.specs.declared.client_message.ClientMessage.{ClientMessage}
 use Rattle.sync_msgs.specs.declared.end_reason.EndReason.{EndReason}
-use Rattle.sync_client.specs.Calls.{Held, asking, asks, connect_answer}
+use Rattle.sync_client.specs.Calls.{ClientState, asking, asks, connect_answer}
 use Rattle.sync_room.specs.Standing as room_of
 use Rattle.sync_peer.specs.Standing as peer_of
 use Rattle.sync_peer.specs.declared.peer.Peer.{Peer}
@@ -33,7 +33,7 @@ use Rattle.world_laws.proofs.SessionLemmas.{sessions_stand}
 use Rattle.world_laws.proofs.WaitingLemmas.{waiting_stand}
 use Rattle.world_queues.specs.Queues.{to_room, to_client}
 use Rattle.sync_world.specs.Sending.{sent_by}
-use Rattle.sync_world.specs.Holding.{held_of}
+use Rattle.sync_world.specs.States.{client_state}
 use Rattle.sync_world.specs.Keeping.{AreKept}
 use Rattle.sync_world.specs.Moving.{Enters}
 use Rattle.sync_world.specs.Standing.{IsClient, Keeps}
@@ -111,7 +111,7 @@ module _ (schemas : WorldSchemas EditFault) (history : History) (c : Client) (of
   off_base = ap (base_by schemas history c) off
 
   -- who asks has the base that it had
-  asking_kept : (k : ℕ) (one : WorldClient) (after : Peer) → option_map clip_tree one.clip ≡ c.clip → peer_of.Stands schemas (record (held_of schemas history c) { client = asking k c }) after
+  asking_kept : (k : ℕ) (one : WorldClient) (after : Peer) → option_map clip_tree one.clip ≡ c.clip → peer_of.Stands schemas (record (client_state schemas history c) { client = asking k c }) after
       → IsClient schemas history (asking k c) (record one { peer = after; session = Some k })
   asking_kept k one after clip stands = record {
     peer = subst (λ b. peer_of.Stands schemas (record { base = b; client = asking k c }) after) off_base stands;
@@ -126,20 +126,20 @@ module _ (schemas : WorldSchemas EditFault) (w : model.World) (live : Live) (kee
   it = is_there schemas w live at at one keeps.fits refl less is
 
   pub connect_refused : (fault : ConnectFault)
-      → ((schemas : WorldSchemas EditFault) (held : Held) → peer_of.Stands schemas held one.peer → connect_answer (schema_of schemas held.client).versions k held.client ≡ Err fault)
+      → ((schemas : WorldSchemas EditFault) (state : ClientState) → peer_of.Stands schemas state one.peer → connect_answer (schema_of schemas state.client).versions k state.client ≡ Err fault)
       → after ≡ one.peer → Answers schemas w (on_connect schemas at readonly w) (Err (Connect fault)) mid
   connect_refused fault refuses same = (
-    refused_so schemas w at it.client it.made readonly (schema_of schemas it.client).versions k fault (refuses schemas (held_of schemas w.room.history it.client) it.kept.peer),
+    refused_so schemas w at it.client it.made readonly (schema_of schemas it.client).versions k fault (refuses schemas (client_state schemas w.room.history it.client) it.kept.peer),
     still_keeps schemas w live keeps at one less is after mid room queues set it.client it.made (record {
-      peer = subst (λ p. peer_of.Stands schemas (held_of schemas w.room.history it.client) p) (sym same) it.kept.peer;
+      peer = subst (λ p. peer_of.Stands schemas (client_state schemas w.room.history it.client) p) (sym same) it.kept.peer;
       session = it.kept.session;
       clip = it.kept.clip;
     }),
   )
 
   module _ (number : k ≡ length (to_client live.queues)) (said : ClientMessage)
-      (answers : (schemas : WorldSchemas EditFault) (held : Held) → peer_of.Stands schemas held one.peer → connect_answer (schema_of schemas held.client).versions k held.client ≡ Ok said)
-      (stands : (schemas : WorldSchemas EditFault) (held : Held) → peer_of.Stands schemas held one.peer → peer_of.Stands schemas (record held { client = asking k held.client }) after)
+      (answers : (schemas : WorldSchemas EditFault) (state : ClientState) → peer_of.Stands schemas state one.peer → connect_answer (schema_of schemas state.client).versions k state.client ≡ Ok said)
+      (stands : (schemas : WorldSchemas EditFault) (state : ClientState) → peer_of.Stands schemas state one.peer → peer_of.Stands schemas (record state { client = asking k state.client }) after)
       (between : Live) (clients : between.clients ≡ mid.clients) (second : WorldClient) (read : second ≡ get_or between.clients.items at second)
       (new : Live) (new_room : new.room ≡ between.room) (new_queues : new.queues ≡ between.queues) where
     -- the session that would enter is the next of the room
@@ -147,7 +147,7 @@ module _ (schemas : WorldSchemas EditFault) (w : model.World) (live : Live) (kee
     next = number ∙ keeps.given.long ∙ (sessions_stand schemas w keeps.reachable).channels
 
     may : (session_of it.client.connection ≡ None) × ((it.client.refused ≡ None) × (said ≡ asks (schema_of schemas it.client).versions k it.client))
-    may = allowed (schema_of schemas it.client).versions k it.client said (answers schemas (held_of schemas w.room.history it.client) it.kept.peer)
+    may = allowed (schema_of schemas it.client).versions k it.client said (answers schemas (client_state schemas w.room.history it.client) it.kept.peer)
 
     off : it.client.connection ≡ Off
     off = off_is it.client.connection may.0
@@ -179,7 +179,7 @@ module _ (schemas : WorldSchemas EditFault) (w : model.World) (live : Live) (kee
         let request = asks versions (length w.room.sessions) c in
         let channel : Channel = record { to_room = request ∷ []; to_client = [] } in
         let kept = subst (λ n. IsClient schemas w.room.history (asking n c) (record one { peer = after; session = Some k })) next
-        (asking_kept schemas w.room.history c off k one after it.kept.clip (stands schemas (held_of schemas w.room.history c) it.kept.peer)) in
+        (asking_kept schemas w.room.history c off k one after it.kept.clip (stands schemas (client_state schemas w.room.history c) it.kept.peer)) in
         let said_is : said ≡ request = may.1.1 ∙ ap (λ n. asks versions n c) next in
         let sent : to_room new.queues ≡ sent_by v.channels =
         ap to_room new_queues ∙ e.1.sent ∙ ap (λ q. to_room q ++ (said ∷ []) ∷ []) queues ∙ ap (λ q. q ++ (said ∷ []) ∷ []) keeps.fits.sent
@@ -194,8 +194,8 @@ module _ (schemas : WorldSchemas EditFault) (w : model.World) (live : Live) (kee
         (ap to_client new_queues ∙ e.1.given ∙ ap (λ q. to_client q ++ [] ∷ []) queues)
 
     pub connect_none : slice_get live.clients.items at ≡ Some one → ((state : Room) → room_of.Stands state live.room → Enters k readonly said state false mid between) → (last : Peer)
-        → ((schemas : WorldSchemas EditFault) (held : Held) → peer_of.Stands schemas held second.peer
-        → peer_of.Stands schemas (record { base = records_with schemas.room.is_document held.base; client = after_cut held.client }) last)
+        → ((schemas : WorldSchemas EditFault) (state : ClientState) → peer_of.Stands schemas state second.peer
+        → peer_of.Stands schemas (record { base = records_with schemas.room.is_document state.base; client = after_cut state.client }) last)
         → new.clients.items ≡ slice_set between.clients.items at (record second { peer = last }) → Answers schemas w (on_connect schemas at readonly w) (Err Limit) new
     connect_none was enters last lost sets =
         let c = it.client in
@@ -205,9 +205,9 @@ module _ (schemas : WorldSchemas EditFault) (w : model.World) (live : Live) (kee
         let still : Live = record new { clients = live.clients } in
         let alike = keeps_alike schemas w live keeps still (subst (λ r. room_of.Stands w.room r) (sym new_room) e.1.room) (ap room_of.tree_of new_room ∙ e.1.schema ∙ ap room_of.tree_of room) refl
         (ap to_room new_queues ∙ e.1.sent ∙ ap to_room queues) (ap to_client new_queues ∙ e.1.given ∙ ap to_client queues) in
-        let asked = record (held_of schemas history c) { client = asking k c } in
+        let asked = record (client_state schemas history c) { client = asking k c } in
         let same = read_is between.clients.items at second (record one { peer = after }) (there was) read in
-        let came = lost schemas asked (subst (λ (s : WorldClient). peer_of.Stands schemas asked s.peer) (sym same) (stands schemas (held_of schemas history c) it.kept.peer)) in
+        let came = lost schemas asked (subst (λ (s : WorldClient). peer_of.Stands schemas asked s.peer) (sym same) (stands schemas (client_state schemas history c) it.kept.peer)) in
         let based = subst (λ b. peer_of.Stands schemas (record { base = b; client = after_cut (asking k c) }) last)
         (document_is schemas w live keeps at c it.made ∙ sym (off_base schemas history c off)) came in (
           has_no_place schemas w at c it.made readonly may.0 may.1.0 (limit_is ∙ e.0),

@@ -25,7 +25,7 @@ use Rattle.migrate_seq.specs.Versions.{Versions}
 use Rattle.field_ops.specs.RecordOps.{RecordOps}
 use Rattle.sync_msgs.specs.declared.server_message.ServerMessage.{ServerMessage}
 use Rattle.sync_msgs.specs.declared.server_message.ServerMessage.TheVariants as message
-use Rattle.sync_client.specs.Calls.{Held, after_message}
+use Rattle.sync_client.specs.Calls.{ClientState, after_message}
 use Rattle.sync_room.specs.Standing as room_of
 use Rattle.sync_peer.specs.Standing as peer_of
 use Rattle.sync_peer.specs.declared.peer.Peer.{Peer}
@@ -35,7 +35,7 @@ use Rattle.world_laws.proofs.LaterLemmas.{got_at}
 use Rattle.world_laws.proofs.SessionLemmas.{sessions_stand}
 use Rattle.world_laws.proofs.TakenLemmas.{takes_next}
 use Rattle.world_queues.specs.Queues.{to_room, to_client, queue_at, without_first}
-use Rattle.sync_world.specs.Holding.{held_of}
+use Rattle.sync_world.specs.States.{client_state}
 use Rattle.sync_world.specs.Keeping.{AreKept}
 use Rattle.sync_world.specs.Moving.{IsDelivery}
 use Rattle.sync_world.specs.Standing.{IsClient, Fits, Keeps}
@@ -95,14 +95,14 @@ module _ (schemas : WorldSchemas EditFault) (w : model.World) (live : Live) (fit
     (made : slice_get w.clients at ≡ Some c) (is : one ≡ get_or live.clients.items at one) (k : ℕ) (said : ServerMessage) (notice : Notice)
     (delivery : IsDelivery schemas w c k (Message said) notice) (after : Peer) (mid : Live) (room : mid.room ≡ live.room) (queues : mid.queues ≡ live.queues)
     (set : mid.clients.items ≡ slice_set live.clients.items at (record one { peer = after }))
-    (took : (schemas : WorldSchemas EditFault) (held : Held) → peer_of.Stands schemas held one.peer
-    → peer_of.Stands schemas (after_message (schema_of schemas held.client).admits schemas.room.is_document held said) after) where
+    (took : (schemas : WorldSchemas EditFault) (state : ClientState) → peer_of.Stands schemas state one.peer
+    → peer_of.Stands schemas (after_message (schema_of schemas state.client).admits schemas.room.is_document state said) after) where
   come : Fits schemas (with_client at (arrived w.room.history k c notice) w) mid
   come =
       let kept = client_is schemas w live fits at c one less made is in
       fits_client schemas w live fits at (arrived w.room.history k c notice) (record one { peer = after }) mid
       (record {
-        peer = subst (λ held. peer_of.Stands schemas held after) (arrives schemas w.room c k said notice delivery.told delivery.expected delivery.taken) (took schemas (held_of schemas w.room.history c) kept.peer);
+        peer = subst (λ state. peer_of.Stands schemas state after) (arrives schemas w.room c k said notice delivery.told delivery.expected delivery.taken) (took schemas (client_state schemas w.room.history c) kept.peer);
         session = kept.session ∙ delivery.session ∙ sym (arrived_session w.room.history k c notice delivery.session);
         clip = kept.clip ∙ sym (arrived_clip w.room.history k c notice);
       }) room queues set
@@ -229,7 +229,7 @@ module _ (schemas : WorldSchemas EditFault) (w : model.World) (live : Live) (kee
           })) same
 
       pub deliver_end : (reason : EndReason) → out ≡ End reason → (after : Peer)
-          → ((schemas : WorldSchemas EditFault) (held : Held) → peer_of.Stands schemas held one.peer → peer_of.Stands schemas (record { base = records_with schemas.room.is_document held.base; client = after_end reason held.client }) after)
+          → ((schemas : WorldSchemas EditFault) (state : ClientState) → peer_of.Stands schemas state one.peer → peer_of.Stands schemas (record { base = records_with schemas.room.is_document state.base; client = after_end reason state.client }) after)
           → (new : Live) → new.room ≡ popped.room → new.queues ≡ popped.queues → new.clients.items ≡ slice_set popped.clients.items at (record one { peer = after; session = None })
           → (lines : Vec OutLine) → lines.items ≡ line.Ended at reason ∷ [] → Answers schemas w (on_deliver at w) (Ok lines) new
       deliver_end reason is after ended new room_is queues_is set lines prints =
@@ -237,7 +237,7 @@ module _ (schemas : WorldSchemas EditFault) (w : model.World) (live : Live) (kee
           let d = after_end reason it.client in
           let kept : IsClient schemas w.room.history d (record one { peer = after; session = None }) = record {
             peer = subst (λ b. peer_of.Stands schemas (record { base = b; client = d }) after) (document_is schemas w live keeps at it.client it.made ∙ sym (ended_base schemas w.room.history it.client reason))
-                (ended schemas (held_of schemas w.room.history it.client) it.kept.peer);
+                (ended schemas (client_state schemas w.room.history it.client) it.kept.peer);
             session = sym (ended_session it.client reason);
             clip = it.kept.clip ∙ sym (ended_clip it.client reason);
           } in

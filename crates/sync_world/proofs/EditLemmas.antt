@@ -13,14 +13,14 @@ use Rattle.room_model.specs.declared.event.Event.TheVariants as event
 use Rattle.room_model.specs.declared.line.OutLine.{OutLine}
 use Rattle.room_model.specs.declared.fault.StepFault.TheVariants.{Edit}
 use Rattle.side_effects.specs.declared.fault.EditFault.{EditFault}
-use Rattle.sync_client.specs.Calls.{Held}
+use Rattle.sync_client.specs.Calls.{ClientState}
 use Rattle.sync_peer.specs.Calls.{completion, done_by}
 use Rattle.sync_peer.specs.Standing as peer_of
 use Rattle.sync_peer.specs.declared.peer.Peer.{Peer}
 use Rattle.world_laws.specs.Queues.{AreQueues}
 use Rattle.world_laws.proofs.LaterLemmas.{got_at}
 use Rattle.world_queues.specs.Queues.{to_client}
-use Rattle.sync_world.specs.Holding.{held_of}
+use Rattle.sync_world.specs.States.{client_state}
 use Rattle.sync_world.specs.Standing.{IsClient, Fits, Keeps}
 use Rattle.sync_world.specs.Answers.{Answers}
 use Rattle.sync_world.specs.declared.live.Live.{Live}
@@ -58,20 +58,20 @@ module _ (schemas : WorldSchemas EditFault) (w : model.World) (live : Live) (kee
       subst (λ (v : model.World). Fits schemas v new) (pushing_over schemas w at d (push_all d))
       (pushes schemas (with_client at d w) d (fits_client schemas w live keeps.fits at d (record one { peer = after }) mid kept room queues set) (got_at w.clients at c d made))
 
-  pub edit_done : (wanted : RecordOps) → ((schemas : WorldSchemas EditFault) (held : Held) → peer_of.Stands schemas held one.peer → peer_of.Edits schemas held (completion schemas held wanted) after)
+  pub edit_done : (wanted : RecordOps) → ((schemas : WorldSchemas EditFault) (state : ClientState) → peer_of.Stands schemas state one.peer → peer_of.Edits schemas state (completion schemas state wanted) after)
       → (new : Live) → Pushes new → to_client new.queues ≡ to_client mid.queues → (lines : Vec OutLine) → lines.items ≡ [] → Answers schemas w (on_edit schemas at wanted w) (Ok lines) new
   edit_done wanted edited new pushes given lines prints =
       let it = is_there schemas w live at at one keeps.fits refl less is in
       let c = it.client in
-      let held = held_of schemas w.room.history c in
+      let state = client_state schemas w.room.history c in
       let seen = ap (λ m. (schema_of schemas c).complete m wanted) (shown_is schemas w live keeps at c it.made) in
-      elim ((schema_of schemas c).complete (shown_in schemas w c) wanted) as (λ o. (schema_of schemas c).complete (shown_in schemas w c) wanted ≡ o → peer_of.Edits schemas held o after
+      elim ((schema_of schemas c).complete (shown_in schemas w c) wanted) as (λ o. (schema_of schemas c).complete (shown_in schemas w c) wanted ≡ o → peer_of.Edits schemas state o after
       → Answers schemas w (on_edit schemas at wanted w) (Ok lines) new) [
         | Err fault ↦ λ completes none. absurd none
         | Ok diff ↦ λ completes stands.
             let back = ap (λ m. inverse_diff (schema_of schemas c).admits m diff) (shown_is schemas w live keeps at c it.made) in
             let d = with_work (edit diff) (record c { marks = marks.after_edit (inverse_in schemas w c diff) c.marks }) in
-            let marked = subst (λ b. peer_of.Stands schemas (record held { client = with_work (edit diff) (record c { marks = marks.after_edit b c.marks }) }) after) back stands in
+            let marked = subst (λ b. peer_of.Stands schemas (record state { client = with_work (edit diff) (record c { marks = marks.after_edit b c.marks }) }) after) back stands in
             let kept : IsClient schemas w.room.history d (record one { peer = after }) = record {
               peer = subst (λ b. peer_of.Stands schemas (record { base = b; client = d }) after) (sym (base_alike schemas w.room.history c d refl refl refl)) marked;
               session = it.kept.session;
@@ -79,21 +79,21 @@ module _ (schemas : WorldSchemas EditFault) (w : model.World) (live : Live) (kee
             } in
             happened schemas w (with_pushing at (push_all d) w) false (event.Edit at wanted) live new [] lines keeps (edits schemas w at c it.made wanted diff completes) prints
             (then_pushes c d it.made kept new pushes) (given ∙ ap to_client queues)
-      ] refl (subst (λ o. peer_of.Edits schemas held o after) seen (edited schemas held it.kept.peer))
+      ] refl (subst (λ o. peer_of.Edits schemas state o after) seen (edited schemas state it.kept.peer))
 
   refused_by : (o : Result RecordOps EditFault) (fault : EditFault) → done_by o ≡ Err fault → o ≡ Err fault
   refused_by (Ok diff) fault is = absurd (cc)
   refused_by (Err other) fault is = let same : other ≡ fault = cc in ap (λ f. Err f) same
 
   pub edit_refused : (wanted : RecordOps) (fault : EditFault)
-      → ((schemas : WorldSchemas EditFault) (held : Held) → peer_of.Stands schemas held one.peer → done_by (completion schemas held wanted) ≡ Err fault)
-      → ((schemas : WorldSchemas EditFault) (held : Held) → peer_of.Stands schemas held one.peer → peer_of.Stands schemas held after)
+      → ((schemas : WorldSchemas EditFault) (state : ClientState) → peer_of.Stands schemas state one.peer → done_by (completion schemas state wanted) ≡ Err fault)
+      → ((schemas : WorldSchemas EditFault) (state : ClientState) → peer_of.Stands schemas state one.peer → peer_of.Stands schemas state after)
       → Answers schemas w (on_edit schemas at wanted w) (Err (Edit fault)) mid
   edit_refused wanted fault refuses stays =
       let it = is_there schemas w live at at one keeps.fits refl less is in
       let c = it.client in
-      let held = held_of schemas w.room.history c in
+      let state = client_state schemas w.room.history c in
       let seen = ap (λ m. (schema_of schemas c).complete m wanted) (shown_is schemas w live keeps at c it.made) in (
-        edits_not schemas w at c it.made wanted fault (sym seen ∙ refused_by (completion schemas held wanted) fault (refuses schemas held it.kept.peer)),
-        still_keeps c it.made (record { peer = stays schemas held it.kept.peer; session = it.kept.session; clip = it.kept.clip }),
+        edits_not schemas w at c it.made wanted fault (sym seen ∙ refused_by (completion schemas state wanted) fault (refuses schemas state it.kept.peer)),
+        still_keeps c it.made (record { peer = stays schemas state it.kept.peer; session = it.kept.session; clip = it.kept.clip }),
       )

@@ -18,7 +18,7 @@ use Rattle.room_model.specs.declared.line.OutLine.TheVariants as line
 use Rattle.side_effects.specs.declared.fault.EditFault.{EditFault}
 use Rattle.sync_msgs.specs.declared.client_message.ClientMessage.{ClientMessage}
 use Rattle.sync_msgs.specs.declared.out.Out.{Out}
-use Rattle.sync_client.specs.Calls.{Held}
+use Rattle.sync_client.specs.Calls.{ClientState}
 use Rattle.sync_room.specs.Standing as room_of
 use Rattle.sync_peer.specs.Standing as peer_of
 use Rattle.sync_peer.specs.declared.peer.Peer.{Peer}
@@ -28,7 +28,7 @@ use Rattle.world_laws.specs.Told.{replica_of}
 use Rattle.world_laws.proofs.LaterLemmas.{has_same}
 use Rattle.world_laws.proofs.TakenLemmas.{has_parts}
 use Rattle.world_queues.specs.Queues.{to_room, to_client, queue_at, without_first}
-use Rattle.sync_world.specs.Holding.{held_of}
+use Rattle.sync_world.specs.States.{client_state}
 use Rattle.sync_world.specs.Keeping.{AreKept}
 use Rattle.sync_world.specs.Standing.{IsClient, Fits, Keeps}
 use Rattle.sync_world.specs.Answers.{Answers}
@@ -87,7 +87,7 @@ module _ (schemas : WorldSchemas EditFault) (w : model.World) (live : Live) wher
       cut_refused none = let it = is_there n at one keeps.fits same less is in (cuts_none w n it.client it.made (sym it.kept.session ∙ none_of one.session none), keeps)
 
       pub cut_done : is_none one.session ≡ false → (after : Peer)
-          → ((schemas : WorldSchemas EditFault) (held : Held) → peer_of.Stands schemas held one.peer → peer_of.Stands schemas (record { base = records_with schemas.room.is_document held.base; client = after_cut held.client }) after)
+          → ((schemas : WorldSchemas EditFault) (state : ClientState) → peer_of.Stands schemas state one.peer → peer_of.Stands schemas (record { base = records_with schemas.room.is_document state.base; client = after_cut state.client }) after)
           → (lines : Vec OutLine) → lines.items ≡ [] → (new : Live) → new.room ≡ live.room → new.queues ≡ live.queues
           → new.clients.items ≡ slice_set live.clients.items at (record one { peer = after; session = None })
           → Answers schemas w (on_cut n w) (Ok lines) new
@@ -96,7 +96,7 @@ module _ (schemas : WorldSchemas EditFault) (w : model.World) (live : Live) wher
           let c = it.client in
           let has = some_of one.session some in
           let kept : IsClient schemas w.room.history (after_cut c) (record one { peer = after; session = None }) = record {
-            peer = subst (λ b. peer_of.Stands schemas (record { base = b; client = after_cut c }) after) (document_is n c it.made) (lost schemas (held_of schemas w.room.history c) it.kept.peer);
+            peer = subst (λ b. peer_of.Stands schemas (record { base = b; client = after_cut c }) after) (document_is n c it.made) (lost schemas (client_state schemas w.room.history c) it.kept.peer);
             session = refl;
             clip = it.kept.clip;
           } in

@@ -24,7 +24,7 @@ use Rattle.world_laws.proofs.PushLemmas.{same_pushed}
 use Rattle.world_laws.proofs.QueueLemmas.{queues_go_on}
 use Rattle.world_queues.specs.Queues.{to_room, to_client}
 use Rattle.sync_world.specs.Sending.{sent_by}
-use Rattle.sync_world.specs.Holding.{held_of}
+use Rattle.sync_world.specs.States.{client_state}
 use Rattle.sync_world.specs.Keeping.{AreKept}
 use Rattle.sync_world.specs.Standing.{IsClient, Fits, Keeps}
 use Rattle.sync_world.specs.Answers.{Answers}
@@ -130,7 +130,7 @@ module _ (schemas : WorldSchemas EditFault) where
 
   -- a client is kept where what pushes changed it
   pub pushed_kept : (history : History) (c : Client) (one : WorldClient) (after : Peer) → IsClient schemas history c one
-      → peer_of.Stands schemas (record (held_of schemas history c) { client = (push_all c).client }) after
+      → peer_of.Stands schemas (record (client_state schemas history c) { client = (push_all c).client }) after
       → IsClient schemas history (push_all c).client (record one { peer = after })
   pushed_kept history c one after is stands =
       let same = same_pushed (length c.pending) c in

@@ -8,13 +8,13 @@ use Rattle.room_model.specs.Worlds as model
 use Rattle.room_model.specs.Worlds.{with_client, with_pushing}
 use Rattle.side_effects.specs.declared.fault.EditFault.{EditFault}
 use Rattle.sync_msgs.specs.declared.client_message.ClientMessage.{ClientMessage}
-use Rattle.sync_client.specs.Calls.{Held}
+use Rattle.sync_client.specs.Calls.{ClientState}
 use Rattle.sync_peer.specs.Standing as peer_of
 use Rattle.sync_peer.specs.declared.peer.Peer.{Peer}
 use Rattle.world_laws.proofs.PushLemmas.{same_pushed}
 use Rattle.world_queues.specs.Queues.{to_room, with_all}
 use Rattle.sync_world.specs.Sending.{sent_by}
-use Rattle.sync_world.specs.Holding.{held_of}
+use Rattle.sync_world.specs.States.{client_state}
 use Rattle.sync_world.specs.Standing.{IsClient, Fits}
 use Rattle.sync_world.specs.declared.live.Live.{Live}
 use Rattle.sync_world.specs.declared.live.WorldClient.{WorldClient}
@@ -23,8 +23,8 @@ use Rattle.sync_world.proofs.PartLemmas.{client_is, fits_client, fits_pushing, p
 
 -- what a client pushes, and that its peer stands for it then
 abbrev pub HasPushed : Peer → List ClientMessage → Peer → Type 0
-HasPushed before messages after = (schemas : WorldSchemas EditFault) (held : Held) → peer_of.Stands schemas held before
-    → (messages ≡ (push_all held.client).messages) × peer_of.Stands schemas (record held { client = (push_all held.client).client }) after
+HasPushed before messages after = (schemas : WorldSchemas EditFault) (state : ClientState) → peer_of.Stands schemas state before
+    → (messages ≡ (push_all state.client).messages) × peer_of.Stands schemas (record state { client = (push_all state.client).client }) after
 
 module _ (schemas : WorldSchemas EditFault) (w : model.World) (live : Live) (fits : Fits schemas w live) (at : ℕ) (c : Client) (one : WorldClient) (less : at < vec_len live.clients)
     (made : slice_get w.clients at ≡ Some c) (is : one ≡ get_or live.clients.items at one) where
@@ -35,8 +35,8 @@ module _ (schemas : WorldSchemas EditFault) (w : model.World) (live : Live) (fit
   pushes_on o has = ap session_of (same_pushed (length c.pending) c).connection ∙ sym kept.session ∙ has
 
   module _ (messages : List ClientMessage) (after : Peer) (has_pushed : HasPushed one.peer messages after) where
-    so : (messages ≡ (push_all c).messages) × peer_of.Stands schemas (record (held_of schemas w.room.history c) { client = (push_all c).client }) after
-    so = has_pushed schemas (held_of schemas w.room.history c) kept.peer
+    so : (messages ≡ (push_all c).messages) × peer_of.Stands schemas (record (client_state schemas w.room.history c) { client = (push_all c).client }) after
+    so = has_pushed schemas (client_state schemas w.room.history c) kept.peer
 
     pub pushed : (new : Live) → new.room ≡ live.room → new.clients.items ≡ slice_set live.clients.items at (record one { peer = after })
         → to_room new.queues ≡ sent_by (with_pushing at (push_all c) w).channels → Fits schemas (with_pushing at (push_all c) w) new

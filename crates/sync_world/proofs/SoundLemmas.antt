@@ -16,7 +16,7 @@ use Rattle.sync_peer.specs.Viewing.{store_of, IsSoundStore}
 use Rattle.sync_peer.proofs.PeerLemmas as peers
 use Rattle.world_laws.specs.Restoring.{ShowsSound}
 use Rattle.world_laws.proofs.PushLemmas.{got_old, got_new}
-use Rattle.sync_world.specs.Holding.{held_of}
+use Rattle.sync_world.specs.States.{client_state}
 use Rattle.sync_world.specs.Standing.{Keeps}
 use Rattle.sync_world.specs.Viewing.{stores_in, ChangesOne, ChangesIf, MayJoin, KeepsStores, IsSoundAt, changed_by}
 use Rattle.sync_world.specs.declared.live.Live.{Live}
@@ -78,7 +78,7 @@ module _ (schemas : WorldSchemas EditFault) (w : model.World) (live : Live) (kee
       let is = keeps.fits.clients.each n c there.0 at there.1 in (
         store_of there.0.peer,
         store_there live.clients.items n there.0 there.1,
-        sym (peers.shown_is schemas (held_of schemas w.room.history c) there.0.peer is.peer) ∙ shown_is schemas w live keeps n c at,
+        sym (peers.shown_is schemas (client_state schemas w.room.history c) there.0.peer is.peer) ∙ shown_is schemas w live keeps n c at,
       )
 
   shows_sound : AreSound (stores_in live) → (n : ℕ) → ShowsSound schemas w n

@@ -20,7 +20,7 @@ use Rattle.world_laws.proofs.PushLemmas.{answered, snapshot_same}
 use Rattle.sync_client.specs.Calls.{opened, after_message}
 use Rattle.sync_client.specs.Faults.{clock_fault, number_fault, clock_after, events_fault, answer_fault, open_fault, take_fault}
 use Rattle.sync_client.specs.declared.fault.TakeFault.TheVariants.{WrongRequest, NoPending, WrongPending, ClockBack}
-use Rattle.sync_world.specs.Holding.{held_of}
+use Rattle.sync_world.specs.States.{client_state}
 use Rattle.sync_world.proofs.WorldLemmas.{base_alike}
 use Rattle.rooms_val.proofs.Truths.{bytes_eq_itself}
 
@@ -36,20 +36,20 @@ number_taken (Some n) number is =
     subst (λ z. number_fault z n ≡ None) same (ap (λ b. cond b None (Some (WrongPending (pos n) (pos n)))) (true_of (n == n) (eqb_refl n)))
 
 -- events in order are at no fault
-in_order : (held : ℤ) (items : List Pending) (events : List DataEvent) → AreInOrder held items events → events_fault items held events ≡ None
-in_order held items [] h = refl
-in_order held items (Patch diff clock ∷ events) h =
-    ap (λ b. option_or (cond b (Some (ClockBack held clock)) None) (events_fault items clock events)) h.0 ∙ in_order clock items events h.1
-in_order held [] (PushResult number clock action ∷ events) h = absurd h.0
-in_order held (item ∷ items) (PushResult number clock action ∷ events) h =
-    ap (λ o. option_or (option_or o (clock_fault held clock)) (events_fault items clock events)) (number_taken item.sent_as number h.0)
-    ∙ ap (λ b. option_or (cond b (Some (ClockBack held clock)) None) (events_fault items clock events)) h.1
+in_order : (reached : ℤ) (items : List Pending) (events : List DataEvent) → AreInOrder reached items events → events_fault items reached events ≡ None
+in_order reached items [] h = refl
+in_order reached items (Patch diff clock ∷ events) h =
+    ap (λ b. option_or (cond b (Some (ClockBack reached clock)) None) (events_fault items clock events)) h.0 ∙ in_order clock items events h.1
+in_order reached [] (PushResult number clock action ∷ events) h = absurd h.0
+in_order reached (item ∷ items) (PushResult number clock action ∷ events) h =
+    ap (λ o. option_or (option_or o (clock_fault reached clock)) (events_fault items clock events)) (number_taken item.sent_as number h.0)
+    ∙ ap (λ b. option_or (cond b (Some (ClockBack reached clock)) None) (events_fault items clock events)) h.1
     ∙ in_order clock items events h.2
 
-same_clock : (held : ℤ) (events : List DataEvent) → clock_after held events ≡ told.clock_after held events
-same_clock held [] = refl
-same_clock held (Patch diff clock ∷ events) = same_clock clock events
-same_clock held (PushResult number clock action ∷ events) = same_clock clock events
+same_clock : (reached : ℤ) (events : List DataEvent) → clock_after reached events ≡ told.clock_after reached events
+same_clock reached [] = refl
+same_clock reached (Patch diff clock ∷ events) = same_clock clock events
+same_clock reached (PushResult number clock action ∷ events) = same_clock clock events
 
 -- what is expected is taken
 pub expected_taken : (c : Client) (k : ℕ) (said : ServerMessage) → IsExpected c k (Message said) → take_fault c said ≡ None
@@ -71,7 +71,7 @@ module _ {F : Type 0} (schemas : WorldSchemas F) (room : Room) (c : Client) (k :
   -- it is the client with its base after the message that the notice tells
   pub arrives : (said : ServerMessage) (notice : Notice) → Message said ≡ told.told schemas room c k notice → IsExpected c k (Message said)
       → IsTaken schemas room.history c (Message said) (after_notice room.history k c notice).client
-      → after_message (schema_of schemas c).admits schemas.room.is_document (held_of schemas room.history c) said ≡ held_of schemas room.history (arrived room.history k c notice)
+      → after_message (schema_of schemas c).admits schemas.room.is_document (client_state schemas room.history c) said ≡ client_state schemas room.history (arrived room.history k c notice)
   arrives (message.Connect hydration request protocol versions diff clock readonly) (snapshot_at at) is expected taken =
       let after : Client = answered k at c in
       let pushed = snapshot_same k at c in

@@ -7,7 +7,7 @@ use Rattle.room_model.specs.Schemas.{WorldSchemas}
 use Rattle.room_model.specs.Worlds as model
 use Rattle.room_model.specs.Worlds.{with_client}
 use Rattle.side_effects.specs.declared.fault.EditFault.{EditFault}
-use Rattle.sync_client.specs.Calls.{Held}
+use Rattle.sync_client.specs.Calls.{ClientState}
 use Rattle.sync_peer.specs.Standing as peer_of
 use Rattle.sync_peer.specs.Viewing.{store_of, WatchAlike}
 use Rattle.sync_peer.specs.declared.peer.Peer.{Peer}
@@ -97,7 +97,7 @@ module _ (live : Live) (at : ℕ) (one other : WorldClient) (less : at < vec_len
 -- a world still stands for what it stood for where a peer does
 pub still_stands : (schemas : WorldSchemas EditFault) (world : model.World) (code : World) (n : ℕ) (one : WorldClient) (peer : Peer)
     → n < vec_len code.live.clients → one ≡ get_or code.live.clients.items n one
-    → ((held : Held) → peer_of.Stands schemas held one.peer → peer_of.Stands schemas held peer) → Stands schemas world code
+    → ((state : ClientState) → peer_of.Stands schemas state one.peer → peer_of.Stands schemas state peer) → Stands schemas world code
     → Stands schemas world (record code { live = record code.live { clients = with_item code.live.clients n (record one { peer = peer }) } })
 still_stands schemas world code n one peer less value also stands =
     let live = code.live in

@@ -11,7 +11,7 @@ use Rattle.clip_content.specs.View.{clip_tree, target_tree}
 use Rattle.clip_content.specs.declared.clip.Clip.{Clip}
 use Rattle.clip_content.specs.declared.target.Target.{Target}
 use Rattle.side_effects.specs.declared.fault.EditFault.{EditFault}
-use Rattle.sync_client.specs.Calls.{Held}
+use Rattle.sync_client.specs.Calls.{ClientState}
 use Rattle.sync_peer.specs.Calls.{shown}
 use Rattle.sync_peer.specs.Standing.{Stands}
 use Rattle.sync_peer.specs.declared.peer.Peer.{Peer}
@@ -23,10 +23,10 @@ clip_or_fault (Err fault) = Err fault
 
 -- the copy of these shapes of what a peer shows, or why there is none
 abbrev pub IsCopyOf : Peer → List (List ℕ) → Result Clip ClipFault → Type 0
-IsCopyOf peer ids copied = (schemas : WorldSchemas EditFault) (held : Held) → Stands schemas held peer
-    → taken (shown schemas held) ids ≡ clip_or_fault copied
+IsCopyOf peer ids copied = (schemas : WorldSchemas EditFault) (state : ClientState) → Stands schemas state peer
+    → taken (shown schemas state) ids ≡ clip_or_fault copied
 
 -- the diff that pastes a clip into what a peer shows, or why there is none
 abbrev pub IsPasteOf : Clip → Peer → Target → Result RecordOps PasteFault → Type 0
-IsPasteOf clip peer target diff = (schemas : WorldSchemas EditFault) (held : Held) → Stands schemas held peer
-    → pasted (clip_tree clip) (shown schemas held) (target_tree target) ≡ diff
+IsPasteOf clip peer target diff = (schemas : WorldSchemas EditFault) (state : ClientState) → Stands schemas state peer
+    → pasted (clip_tree clip) (shown schemas state) (target_tree target) ≡ diff

@@ -1,7 +1,7 @@
 pub mod Playing
 pub mod Sending
 pub mod Pushing
-pub mod Holding
+pub mod States
 pub mod Keeping
 pub mod Viewing
 pub mod Clips

@@ -14,7 +14,7 @@ use Rattle.side_effects.specs.declared.fault.EditFault.{EditFault}
 use Rattle.peer_schemas.specs.Clients.{AreOfTables, schemas_of}
 use Rattle.sync_peer.specs.Standing as peer_of
 use Rattle.world_queues.specs.Queues.{to_room, to_client}
-use Rattle.sync_world.specs.Holding.{held_of}
+use Rattle.sync_world.specs.States.{client_state}
 use Rattle.sync_world.specs.Keeping.{AreKept}
 use Rattle.sync_world.specs.Sending.{sent_by}
 use Rattle.sync_world.specs.declared.live.Live.{Live}
@@ -23,7 +23,7 @@ use Rattle.sync_world.specs.declared.world.World.{World}
 
 -- what is kept of a client: a peer that stands for it, its session, and its clip
 pub record IsClient (schemas : WorldSchemas EditFault) (history : History) (client : Client) (kept : WorldClient) : Type 0 where
-  pub peer : peer_of.Stands schemas (held_of schemas history client) kept.peer
+  pub peer : peer_of.Stands schemas (client_state schemas history client) kept.peer
   pub session : kept.session ≡ session_of client.connection
   pub clip : option_map clip_tree kept.clip ≡ client.clip
 

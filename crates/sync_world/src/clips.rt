@@ -7,7 +7,7 @@ ghost use Rattle.room_model.specs.Worlds as model;
 ghost use Rattle.room_model.specs.Worlds.{on_copy, on_paste};
 ghost use Rattle.clip_content.specs.View.{target_tree};
 ghost use Rattle.side_effects.specs.declared.fault.EditFault.{EditFault};
-ghost use Rattle.sync_client.specs.Calls.{Held};
+ghost use Rattle.sync_client.specs.Calls.{ClientState};
 ghost use Rattle.sync_peer.specs.Standing as peer_of;
 ghost use Rattle.sync_world.specs.Clips.{IsCopyOf, IsPasteOf};
 ghost use Rattle.sync_world.specs.Standing.{Keeps};

@@ -5,7 +5,7 @@ ghost use Rattle.room_model.specs.Replicas.{Client, push_all};
 ghost use Rattle.room_model.specs.Worlds as model;
 ghost use Rattle.room_model.specs.Worlds.{with_pushing, after_event};
 ghost use Rattle.side_effects.specs.declared.fault.EditFault.{EditFault};
-ghost use Rattle.sync_client.specs.Calls.{Held};
+ghost use Rattle.sync_client.specs.Calls.{ClientState};
 ghost use Rattle.sync_peer.specs.Standing as peer_of;
 ghost use Rattle.world_queues.specs.Queues.{to_client};
 ghost use Rattle.sync_world.specs.Playing.{IsPlayed};
@@ -152,11 +152,11 @@ impl Live {
 
 // What a client can push, the oldest first. Where memory is refused nothing is said of the client.
 fn pushes(alloc: Global, peer: &mut Peer) -> Mem<Vec<ClientMessage>>
-    ensures pushes { IfOk result (λ messages. (schemas : WorldSchemas EditFault) (held : Held)
-        → peer_of.Stands schemas held peer.old
-        → (messages.items ≡ (push_all held.client).messages)
-        × peer_of.Stands schemas (record held {
-          client = (push_all held.client).client;
+    ensures pushes { IfOk result (λ messages. (schemas : WorldSchemas EditFault) (state : ClientState)
+        → peer_of.Stands schemas state peer.old
+        → (messages.items ≡ (push_all state.client).messages)
+        × peer_of.Stands schemas (record state {
+          client = (push_all state.client).client;
         }) peer.new) }
     ensures store { store_of peer.new ≡ store_of peer.old }
 {

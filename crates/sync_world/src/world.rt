@@ -15,7 +15,7 @@ ghost use Rattle.side_effects.specs.declared.fault.EditFault.{EditFault};
 ghost use Rattle.tl_tables.specs.Tables.{IsVersion, IsSchemaAt};
 ghost use Rattle.sync_peer.specs.Standing as peer_of;
 ghost use Rattle.sync_world.specs.Playing.{IsPlayed};
-ghost use Rattle.sync_world.specs.Holding.{held_of};
+ghost use Rattle.sync_world.specs.States.{client_state};
 ghost use Rattle.sync_world.specs.Standing.{Stands, IsAtVersion};
 ghost use Rattle.sync_world.specs.Answers.{StepsTo, is_spent};
 ghost use Rattle.sync_world.specs.Restoring.{IsSinceMark, GoesBack, Shows};
@@ -157,7 +157,7 @@ impl World {
         requires { client < vec_len self.now.live.clients }
         ensures stands { (schemas : WorldSchemas EditFault) (world : model.World) (one : Client)
             → Stands schemas world self.now → slice_get world.clients client ≡ Some one
-            → peer_of.Stands schemas (held_of schemas world.room.history one) result.now }
+            → peer_of.Stands schemas (client_state schemas world.room.history one) result.now }
         ensures store { slice_get (stores_of self.now) client ≡ Some (store_of result.now) }
     {
         &self.live.clients[client as usize].peer

@@ -9,7 +9,7 @@ use Rattle.room_model.specs.Worlds.{shown_in}
 use Rattle.side_effects.specs.declared.fault.EditFault.{EditFault}
 use Rattle.sync_peer.specs.Viewing.{store_of}
 use Rattle.sync_peer.proofs.PeerLemmas as peers
-use Rattle.sync_world.specs.Holding.{held_of}
+use Rattle.sync_world.specs.States.{client_state}
 use Rattle.sync_world.specs.Keeping.{AreKept}
 use Rattle.sync_world.specs.Standing as world_of
 use Rattle.sync_world.specs.Viewing.{stores_of, stores_kept}
@@ -25,7 +25,7 @@ pub store_shows : (schemas : WorldSchemas EditFault) (world : model.World) (code
     → shown_in schemas world client ≡ records (store_of kept.peer)
 store_shows schemas world code stands n client kept at there =
     let is = stands.keeps.fits.clients.each n client kept at there in
-    sym (shown_is schemas world code.live stands.keeps n client at) ∙ peers.shown_is schemas (held_of schemas world.room.history client) kept.peer is.peer
+    sym (shown_is schemas world code.live stands.keeps n client at) ∙ peers.shown_is schemas (client_state schemas world.room.history client) kept.peer is.peer
 
 same_maps : (f : Client → Pairs) (clients : List Client) (kept : List WorldClient) → length kept ≡ length clients
     → ((n : ℕ) (c : Client) (k : WorldClient) → slice_get clients n ≡ Some c → slice_get kept n ≡ Some k → f c ≡ records (store_of k.peer))

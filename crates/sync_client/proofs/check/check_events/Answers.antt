@@ -20,7 +20,7 @@ returns-in-Err-clause-fault c = λ works many.
     let n = expected c.args.first c.args.sent c.events.checked.ended in
     let parts = one_off events i e c.events-test.true c.event-item.is in
     let number = number-left c.args.first c.args.sent c.events.checked.ended works c.events.invariant.within many in
-    sym (sym (ap (λ z. events_fault items z events) (to_z-of_z w64 c.args.held c.ranges.held)) ∙ c.events.invariant.fault works many ∙ ap (events_fault (drop c.events.checked.ended items) c.events.checked.clock) parts
+    sym (sym (ap (λ z. events_fault items z events) (to_z-of_z w64 c.args.reached c.ranges.reached)) ∙ c.events.invariant.fault works many ∙ ap (events_fault (drop c.events.checked.ended items) c.events.checked.clock) parts
     ∙ fault-here items c.events.checked.ended c.events.checked.clock n e (drop (i + 1) events) c.in-Err.fault number (sym c.in-Err.ensures.fault))
 
 pub events-preserved : goal.events-preserved
@@ -43,5 +43,5 @@ events-preserved c =
           ∙ (λ j. events_fault (drop (sym told.ended j) items) (sym told.clock j) (drop (i + 1) events));
       ended = told.ended ∙ ap (λ n. n + ended_by e) c.events.invariant.ended ∙ sym (ended_more (take i events) e) ∙ sym (ap (sum_by ended_by) more);
       within = told.within;
-      clock = told.clock ∙ sym (ap (clock_after (to_z w64 (of_z w64 c.args.held))) more ∙ fold-append (λ clock event. clock_of event) (to_z w64 (of_z w64 c.args.held)) (take i events) (e ∷ []));
+      clock = told.clock ∙ sym (ap (clock_after (to_z w64 (of_z w64 c.args.reached))) more ∙ fold-append (λ clock event. clock_of event) (to_z w64 (of_z w64 c.args.reached)) (take i events) (e ∷ []));
     }

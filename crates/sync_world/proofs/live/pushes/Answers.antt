@@ -9,46 +9,46 @@ use Rattle.sync_world.proofs.live.pushes.Goals as goal
 pub pushes-init : goal.pushes-init
 pushes-init c = (
   refl,
-  λ schemas held stands.
+  λ schemas state stands.
       let owed = c.owed-owed.result in
       let all : owed ≡ owed - 0 = omega arith in
-      subst (λ n. IsPushing schemas held owed n c.new-messages.result.items c.args.peer.now) all
-      (subst (λ (ms : List ClientMessage). IsPushing schemas held owed owed ms c.args.peer.now) (sym c.new-messages.ensures.items) (pushing_begins schemas held owed c.args.peer.now stands)),
+      subst (λ n. IsPushing schemas state owed n c.new-messages.result.items c.args.peer.now) all
+      (subst (λ (ms : List ClientMessage). IsPushing schemas state owed owed ms c.args.peer.now) (sym c.new-messages.ensures.items) (pushing_begins schemas state owed c.args.peer.now stands)),
 )
 
 pub pushes-preserved : goal.pushes-preserved
 pushes-preserved c = (
   c.next_push.ensures.store ∙ c.pushes.invariant.0,
-  λ schemas held stands.
+  λ schemas state stands.
       let owed = c.owed-owed.result in
-      let h = c.pushes.invariant.1 schemas held stands in
-      let at = record held { client = h.client } in
+      let h = c.pushes.invariant.1 schemas state stands in
+      let at = record state { client = h.client } in
       let says = sym (ap option_to_list c.in-Some.is) ∙ c.in_ok-message.ensures.push schemas at h.stands in
       let next = c.in_ok-message.ensures.ok schemas at h.stands in
       let more : owed - c.pushes.counter ≡ suc (owed - (c.pushes.counter + 1)) = let less = c.pushes-test.true in omega arith in
-      subst (λ (ms : List ClientMessage). IsPushing schemas held owed (owed - (c.pushes.counter + 1)) ms c.next_push.new.self) (sym c.in_ok-push-in-Some.ensures.items)
-      (pushing_goes_on schemas held owed (owed - c.pushes.counter) c.pushes.messages.items c.pushes.peer c.next_push.new.self h (owed - (c.pushes.counter + 1)) c.in-Some.message more says next),
+      subst (λ (ms : List ClientMessage). IsPushing schemas state owed (owed - (c.pushes.counter + 1)) ms c.next_push.new.self) (sym c.in_ok-push-in-Some.ensures.items)
+      (pushing_goes_on schemas state owed (owed - c.pushes.counter) c.pushes.messages.items c.pushes.peer c.next_push.new.self h (owed - (c.pushes.counter + 1)) c.in-Some.message more says next),
 )
 
 pub returns-in-None-clause-pushes : goal.returns-in-None-clause-pushes
-returns-in-None-clause-pushes c = λ schemas held stands.
+returns-in-None-clause-pushes c = λ schemas state stands.
     let owed = c.owed-owed.result in
-    let h = c.pushes.invariant.1 schemas held stands in
-    let at = record held { client = h.client } in
+    let h = c.pushes.invariant.1 schemas state stands in
+    let at = record state { client = h.client } in
     let says = sym (ap option_to_list c.in-None.is) ∙ c.in_ok-message.ensures.push schemas at h.stands in
     let next = c.in_ok-message.ensures.ok schemas at h.stands in
-    subst (λ n. (c.pushes.messages.items ≡ (push_times n held.client).messages) × peer_of.Stands schemas (record held { client = (push_times n held.client).client }) c.next_push.new.self)
-    (c.owed-owed.ensures schemas held stands)
-    (pushing_ends schemas held owed (owed - c.pushes.counter) c.pushes.messages.items c.pushes.peer c.next_push.new.self h says next)
+    subst (λ n. (c.pushes.messages.items ≡ (push_times n state.client).messages) × peer_of.Stands schemas (record state { client = (push_times n state.client).client }) c.next_push.new.self)
+    (c.owed-owed.ensures schemas state stands)
+    (pushing_ends schemas state owed (owed - c.pushes.counter) c.pushes.messages.items c.pushes.peer c.next_push.new.self h says next)
 
 pub returns-clause-pushes : goal.returns-clause-pushes
-returns-clause-pushes c = λ schemas held stands.
+returns-clause-pushes c = λ schemas state stands.
     let owed = c.owed-owed.result in
-    let h = c.pushes.invariant.1 schemas held stands in
+    let h = c.pushes.invariant.1 schemas state stands in
     let none : owed - c.pushes.counter ≡ 0 = let more = c.pushes-test.false in omega arith in
-    subst (λ n. (c.pushes.messages.items ≡ (push_times n held.client).messages) × peer_of.Stands schemas (record held { client = (push_times n held.client).client }) c.pushes.peer)
-    (c.owed-owed.ensures schemas held stands)
-    (pushing_done schemas held owed c.pushes.messages.items c.pushes.peer (subst (λ n. IsPushing schemas held owed n c.pushes.messages.items c.pushes.peer) none h))
+    subst (λ n. (c.pushes.messages.items ≡ (push_times n state.client).messages) × peer_of.Stands schemas (record state { client = (push_times n state.client).client }) c.pushes.peer)
+    (c.owed-owed.ensures schemas state stands)
+    (pushing_done schemas state owed c.pushes.messages.items c.pushes.peer (subst (λ n. IsPushing schemas state owed n c.pushes.messages.items c.pushes.peer) none h))
 
 pub returns-in_err-message-clause-store : goal.returns-in_err-message-clause-store
 returns-in_err-message-clause-store c = c.next_push.ensures.store ∙ c.pushes.invariant.0

@@ -2,7 +2,7 @@
 use Rattle.std.specs.Prelude.{◌≡◌, ◌-◌}
 use Rattle.room_model.specs.Schemas.{WorldSchemas}
 use Rattle.side_effects.specs.declared.fault.EditFault.{EditFault}
-use Rattle.sync_client.specs.Calls.{Held}
+use Rattle.sync_client.specs.Calls.{ClientState}
 use Rattle.sync_peer.specs.Standing as peer_of
 use Rattle.sync_peer.specs.Viewing.{store_of}
 use Rattle.sync_world.proofs.PushingLemmas.{IsPushing}
@@ -11,5 +11,5 @@ use Rattle.sync_world.proofs.live.pushes.Given as goal
 abbrev pub invariant-pushes : goal.invariant-pushes
 invariant-pushes l =
     (store_of l.peer ≡ store_of l.fn.peer)
-    × ((schemas : WorldSchemas EditFault) (held : Held) → peer_of.Stands schemas held l.fn.peer
-    → IsPushing schemas held l.owed (l.owed - l.counter) l.messages.items l.peer)
+    × ((schemas : WorldSchemas EditFault) (state : ClientState) → peer_of.Stands schemas state l.fn.peer
+    → IsPushing schemas state l.owed (l.owed - l.counter) l.messages.items l.peer)

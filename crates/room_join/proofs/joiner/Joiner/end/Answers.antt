@@ -9,7 +9,7 @@ pub returns : goal.returns
 returns c = IfOk-weaker c.one_line.result _ _
     (λ lines is. λ schemas joiner stands.
     let range : SFits w64 c.reached.result = search rules in
-    let clock = to_z-of_z w64 c.reached.result range ∙ c.reached.ensures schemas joiner.held stands.peer in
-    let owed = c.owed.ensures schemas joiner.held stands.peer in
+    let clock = to_z-of_z w64 c.reached.result range ∙ c.reached.ensures schemas joiner.state stands.peer in
+    let owed = c.owed.ensures schemas joiner.state stands.peer in
     is ∙ (λ i. line.End (clock i) (owed i) ∷ []))
     c.one_line.ensures

@@ -21,7 +21,7 @@ returns-in_ok-one_line-in-Lost g c = λ schemas joiner stands.
       record { joiner = with_end schemas joiner; lines = line.Lost ∷ [] },
       refl,
       c.in_ok-one_line-in-Lost.ensures,
-      end_heard schemas joiner c.args.self.now stands c.lost.new.self (c.lost.ensures.stands schemas joiner.held stands.peer) c.lost.ensures.store,
+      end_heard schemas joiner c.args.self.now stands c.lost.new.self (c.lost.ensures.stands schemas joiner.state stands.peer) c.lost.ensures.store,
     )
 
 pub returns-in_ok-one_line-in-Idle : goal.returns-in_ok-one_line-in-Idle

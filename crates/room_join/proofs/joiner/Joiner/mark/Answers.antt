@@ -6,9 +6,9 @@ use Rattle.room_join.proofs.joiner.Joiner.mark.Goals as goal
 
 pub returns : goal.returns
 returns c = λ schemas joiner stands.
-    let held = with_marks (after_mark c.args.name joiner.held.client.marks) joiner.held in (
-      record { joiner = record joiner { held = held }; lines = [] },
+    let state = with_marks (after_mark c.args.name joiner.state.client.marks) joiner.state in (
+      record { joiner = record joiner { state = state }; lines = [] },
       refl,
       c.new.ensures.items,
-      changed schemas joiner c.args.self.now stands c.mark.new.self held (c.in_ok-mark.ensures.ok schemas joiner.held stands.peer) (watch_same _ _ c.mark.ensures.store),
+      changed schemas joiner c.args.self.now stands c.mark.new.self state (c.in_ok-mark.ensures.ok schemas joiner.state stands.peer) (watch_same _ _ c.mark.ensures.store),
     )

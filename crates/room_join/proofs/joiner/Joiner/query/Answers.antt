@@ -8,10 +8,10 @@ use Rattle.room_join.proofs.joiner.Joiner.query.Goals as goal
 
 pub returns : goal.returns
 returns c = λ schemas joiner stands.
-    let found = c.in_ok-query.ensures schemas joiner.held stands.peer in
+    let found = c.in_ok-query.ensures schemas joiner.state stands.peer in
     let one : List (List ℕ) → JoinLine = λ ids. line.Printed (printed.Ids 0 ids) in
-    let there = ap (λ (type : List ℕ). ids_meeting (shown schemas joiner.held) type c.args.query.now) c.as_str.ensures.bytes in (
-      record { joiner = joiner; lines = one (ids_meeting (shown schemas joiner.held) c.args.type_name.now c.args.query.now) ∷ [] },
+    let there = ap (λ (type : List ℕ). ids_meeting (shown schemas joiner.state) type c.args.query.now) c.as_str.ensures.bytes in (
+      record { joiner = joiner; lines = one (ids_meeting (shown schemas joiner.state) c.args.type_name.now c.args.query.now) ∷ [] },
       refl,
       c.in_ok-one_line.ensures ∙ ap (λ ids. one ids ∷ []) (c.of-ids.ensures ∙ found ∙ there),
       stands,

@@ -8,6 +8,6 @@ use Rattle.room_join.proofs.joiner.Joiner.undo.Goals as goal
 
 pub returns : goal.returns
 returns g c = λ schemas joiner stands.
-    answers_with schemas joiner c.args.self.now stands c.undo.new.self c.undo.ensures.views c.in_ok-one_line.field-0 (undone schemas joiner.held)
-    (out_line (out.Undo 0 (is_some (undo_diff joiner.held.client.marks))) ∷ []) (c.in_ok-done.ensures.ok schemas joiner.held stands.peer)
-    (c.in_ok-one_line.ensures ∙ ap (λ l. l ∷ []) (c.out_line.ensures ∙ ap (λ done. out_line (out.Undo 0 done)) (c.in_ok-done.ensures.answer schemas joiner.held stands.peer)))
+    answers_with schemas joiner c.args.self.now stands c.undo.new.self c.undo.ensures.views c.in_ok-one_line.field-0 (undone schemas joiner.state)
+    (out_line (out.Undo 0 (is_some (undo_diff joiner.state.client.marks))) ∷ []) (c.in_ok-done.ensures.ok schemas joiner.state stands.peer)
+    (c.in_ok-one_line.ensures ∙ ap (λ l. l ∷ []) (c.out_line.ensures ∙ ap (λ done. out_line (out.Undo 0 done)) (c.in_ok-done.ensures.answer schemas joiner.state stands.peer)))

@@ -18,7 +18,7 @@ returns-in-Ok c = λ schemas joiner stands.
       watches_more view joiner free,
       c.new.ensures.items,
       record {
-        peer = c.in-Ok.ensures.stands schemas joiner.held stands.peer;
+        peer = c.in-Ok.ensures.stands schemas joiner.state stands.peer;
         watched = has;
         closed = c.in-Ok.ensures.begun ∙ stands.closed;
         waiting = stands.waiting;

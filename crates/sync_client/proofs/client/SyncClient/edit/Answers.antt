@@ -9,11 +9,11 @@ pub returns-clause-ok : goal.returns-clause-ok
 returns-clause-ok g c =
     let records = g.D.DocStore.records in
     let old = c.args.self.now in
-    on_ok_with c.edit.result (λ told held stands is.
-    after_work records held old c.edit.new.self (edit c.args.diff) stands (told (replica_of held) stands.replica is) (λ shut. (c.args.diff, refl))) c.edit.ensures.ok
+    on_ok_with c.edit.result (λ told state stands is.
+    after_work records state old c.edit.new.self (edit c.args.diff) stands (told (replica_of state) stands.replica is) (λ shut. (c.args.diff, refl))) c.edit.ensures.ok
 
 pub returns-clause-err : goal.returns-clause-err
 returns-clause-err g c =
     let records = g.D.DocStore.records in
     let old = c.args.self.now in
-    on_err c.edit.result (λ told held stands. still records held old c.edit.new.self stands (told (replica_of held) stands.replica)) c.edit.ensures.err
+    on_err c.edit.result (λ told state stands. still records state old c.edit.new.self stands (told (replica_of state) stands.replica)) c.edit.ensures.err

@@ -7,6 +7,6 @@ use Rattle.sync_client.proofs.ClientLemmas.{end_is}
 use Rattle.sync_client.proofs.client.SyncClient.ended.Goals as goal
 
 pub returns-clause-stands : goal.returns-clause-stands
-returns-clause-stands g c = λ held stands.
-    subst (λ client. Stands g.D.DocStore.records (record { base = records_with (document_of c.args.self.now.replica) held.base; client = client }) c.leave.new.self)
-    (ap (λ refused. record (after_cut held.client) { refused = refused }) (c.refusal.ensures held.client stands.refused) ∙ end_is c.args.reason held.client) (c.leave.ensures.stands held stands)
+returns-clause-stands g c = λ state stands.
+    subst (λ client. Stands g.D.DocStore.records (record { base = records_with (document_of c.args.self.now.replica) state.base; client = client }) c.leave.new.self)
+    (ap (λ refused. record (after_cut state.client) { refused = refused }) (c.refusal.ensures state.client stands.refused) ∙ end_is c.args.reason state.client) (c.leave.ensures.stands state stands)

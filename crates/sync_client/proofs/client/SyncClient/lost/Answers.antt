@@ -6,6 +6,6 @@ use Rattle.sync_client.specs.Standing.{Stands}
 use Rattle.sync_client.proofs.client.SyncClient.lost.Goals as goal
 
 pub returns-clause-stands : goal.returns-clause-stands
-returns-clause-stands g c = λ held stands.
-    subst (λ refused. Stands g.D.DocStore.records (record { base = records_with (document_of c.args.self.now.replica) held.base; client = record (after_cut held.client) { refused = refused } }) c.leave.new.self)
-    stands.refused (c.leave.ensures.stands held stands)
+returns-clause-stands g c = λ state stands.
+    subst (λ refused. Stands g.D.DocStore.records (record { base = records_with (document_of c.args.self.now.replica) state.base; client = record (after_cut state.client) { refused = refused } }) c.leave.new.self)
+    stands.refused (c.leave.ensures.stands state stands)

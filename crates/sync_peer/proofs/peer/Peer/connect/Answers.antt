@@ -6,6 +6,6 @@ use Rattle.sync_peer.proofs.PeerLemmas.{versions_are}
 use Rattle.sync_peer.proofs.peer.Peer.connect.Goals as goal
 
 pub returns-clause-answer : goal.returns-clause-answer
-returns-clause-answer c = λ schemas held stands.
-    subst (λ versions. Gives connect_fault.OutOfMemory (λ said. said) c.connect.result (connect_answer versions c.args.request held.client))
-    (sym (versions_are schemas held c.args.self.now stands)) (c.connect.ensures.answer held stands.client)
+returns-clause-answer c = λ schemas state stands.
+    subst (λ versions. Gives connect_fault.OutOfMemory (λ said. said) c.connect.result (connect_answer versions c.args.request state.client))
+    (sym (versions_are schemas state c.args.self.now stands)) (c.connect.ensures.answer state stands.client)

@@ -9,8 +9,8 @@ use Rattle.sync_peer.proofs.PeerLemmas.{answers, refusal_is}
 use Rattle.sync_peer.proofs.peer.Peer.presence.Goals as goal
 
 pub returns-clause-fault : goal.returns-clause-fault
-returns-clause-fault c = λ schemas held stands.
+returns-clause-fault c = λ schemas state stands.
     let old = c.args.self.now in
     let d = data_of c.args.stored in
-    subst (λ fault. Gives edit_fault.OutOfMemory (λ done. done) (as_edit c.presence.result) (done_unless fault)) (sym (refusal_is schemas held old stands d))
+    subst (λ fault. Gives edit_fault.OutOfMemory (λ done. done) (as_edit c.presence.result) (done_unless fault)) (sym (refusal_is schemas state old stands d))
     (answers c.presence.result (presence_fault (schema_tree old.client.replica.schema) d) c.presence.ensures.fault)

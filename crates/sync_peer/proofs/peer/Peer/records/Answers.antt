@@ -21,7 +21,7 @@ ids-preserved c =
     (subst (IsCopied all c.ids.fields) c.in-Some.ensures.steps.0 c.ids.invariant)
 
 pub returns : goal.returns
-returns c = λ schemas held stands.
+returns c = λ schemas state stands.
     let so_far = c.ids.invariant in
     let none = nothing_left c.ids.id-iterator.rest.items (sym c.ids.id-iterator.rest.ok.0 ∙ c.in-None.ensures.steps.0) in
-    (all_copied (records_of c.args.self.now.client.replica.store) c.ids.fields (subst (IsCopied (records_of c.args.self.now.client.replica.store) c.ids.fields) none so_far) ∙ sym (shown_is schemas held c.args.self.now stands))
+    (all_copied (records_of c.args.self.now.client.replica.store) c.ids.fields (subst (IsCopied (records_of c.args.self.now.client.replica.store) c.ids.fields) none so_far) ∙ sym (shown_is schemas state c.args.self.now stands))

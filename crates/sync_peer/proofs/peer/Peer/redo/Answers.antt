@@ -12,12 +12,12 @@ pub redone-requires-clause-plain : goal.redone-requires-clause-plain
 redone-requires-clause-plain g c = plain_back _ _ c.in-Some.diff c.in_ok-back.back c.in_ok-back.ensures.back
 
 pub returns-clause-ok : goal.returns-clause-ok
-returns-clause-ok g c = λ schemas held stands.
+returns-clause-ok g c = λ schemas state stands.
     let old = c.args.self.now in
     let diff = c.in-Some.diff in
     let new : Peer = record { client = c.make.new.client; marks = c.redone.new.self } in
-    let is = sym (c.in_ok-diff.ensures.diff held.client.marks stands.marks) ∙ c.in-Some.is in
-    subst (λ o. Stands schemas (option_map_or (λ diff. with_marked diff (after_redo (back_of schemas held diff) held.client.marks) held) o held) new) (sym is)
-    (marked schemas held old new stands diff (after_redo (back_of schemas held diff) held.client.marks) c.make.ensures.schema c.in_ok-back.ensures.ok
-    (subst (λ b. marks.Stands (after_redo b held.client.marks) c.redone.new.self) (c.in_ok-back.ensures.back ∙ back_is schemas held old stands diff)
-    (c.redone.ensures.stands held.client.marks (c.redo.ensures.stands held.client.marks stands.marks))))
+    let is = sym (c.in_ok-diff.ensures.diff state.client.marks stands.marks) ∙ c.in-Some.is in
+    subst (λ o. Stands schemas (option_map_or (λ diff. with_marked diff (after_redo (back_of schemas state diff) state.client.marks) state) o state) new) (sym is)
+    (marked schemas state old new stands diff (after_redo (back_of schemas state diff) state.client.marks) c.make.ensures.schema c.in_ok-back.ensures.ok
+    (subst (λ b. marks.Stands (after_redo b state.client.marks) c.redone.new.self) (c.in_ok-back.ensures.back ∙ back_is schemas state old stands diff)
+    (c.redone.ensures.stands state.client.marks (c.redo.ensures.stands state.client.marks stands.marks))))

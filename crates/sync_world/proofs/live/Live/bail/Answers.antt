@@ -27,7 +27,7 @@ returns-in-Err-NoMark-clause-step g c = λ schemas world keeps.
     (subst (λ n. Answers schemas world (on_bail schemas n c.as_str.result.now world) (Err NoMark) mid) c.in-Some.ensures.found.0
     (bail_refused schemas world c.args.self.now keeps c.in-Some.at c.index_mut.result.now c.in-Some.ensures.found.1 c.index_mut.ensures.value c.bail.new.self mid refl refl refl
     c.as_str.result.now
-    (λ s held stands. c.in-Err-NoMark.ensures.fault s held stands (λ oom. absurd (let no : bail.NoMark ≡ bail.OutOfMemory = sym is ∙ oom in cc)) ∙ ap (λ f. Err f) is)
+    (λ s state stands. c.in-Err-NoMark.ensures.fault s state stands (λ oom. absurd (let no : bail.NoMark ≡ bail.OutOfMemory = sym is ∙ oom in cc)) ∙ ap (λ f. Err f) is)
     c.in-Err-NoMark.ensures.err))
 
 pub returns-in_ok-push_more-in-Ok-clause-stores : goal.returns-in_ok-push_more-in-Ok-clause-stores

@@ -25,7 +25,7 @@ returns-in-Err-clause-step c = IfOk-weaker c.not_connected.result _ _
     subst (λ a. Answers schemas world (on_connect schemas c.args.number c.args.readonly world) a mid) (sym so.0)
     (subst (λ n. Answers schemas world (on_connect schemas n c.args.readonly world) (Err (Connect c.in-Err.fault)) mid) c.in-Some.ensures.found.0
     (connect_refused schemas world live keeps c.in-Some.at one c.in-Some.ensures.found.1 c.index_mut.ensures.value c.args.readonly c.len-session.result c.connect.new.self mid refl refl refl
-    c.in-Err.fault (λ s held stands. c.in-Err.ensures.answer s held stands so.1) c.in-Err.ensures.err)))
+    c.in-Err.fault (λ s state stands. c.in-Err.ensures.answer s state stands so.1) c.in-Err.ensures.err)))
     c.not_connected.ensures
 
 pub returns-then-not-branch-clause-step : goal.returns-then-not-branch-clause-step

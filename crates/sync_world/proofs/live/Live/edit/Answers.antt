@@ -24,7 +24,7 @@ returns-in-Err-clause-step g c = IfOk-weaker c.refused.result _ _
     subst (λ a. Answers schemas world (on_edit schemas c.args.number c.args.wanted.now world) a mid) (sym is.0)
     (subst (λ n. Answers schemas world (on_edit schemas n c.args.wanted.now world) (Err (Edit c.in-Err.fault)) mid) c.in-Some.ensures.found.0
     (edit_refused schemas world c.args.self.now keeps c.in-Some.at c.index_mut.result.now c.in-Some.ensures.found.1 c.index_mut.ensures.value c.edit.new.self mid refl refl refl
-    c.args.wanted.now c.in-Err.fault (λ s held stands. c.in-Err.ensures.fault s held stands is.1) c.in-Err.ensures.err)))
+    c.args.wanted.now c.in-Err.fault (λ s state stands. c.in-Err.ensures.fault s state stands is.1) c.in-Err.ensures.err)))
     c.refused.ensures
 
 pub returns-in_ok-push-in-Ok-clause-stores : goal.returns-in_ok-push-in-Ok-clause-stores

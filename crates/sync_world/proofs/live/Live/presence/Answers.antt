@@ -24,7 +24,7 @@ returns-in-Err-clause-step c = IfOk-weaker c.refused.result _ _
     subst (λ a. Answers schemas world (on_presence schemas c.args.number (data_of c.args.stored) world) a mid) (sym is.0)
     (subst (λ n. Answers schemas world (on_presence schemas n (data_of c.args.stored) world) (Err (Edit fault)) mid) c.in-Some.ensures.found.0
     (presence_refused schemas world c.args.self.now keeps c.in-Some.at c.index_mut.result.now c.in-Some.ensures.found.1 c.index_mut.ensures.value c.presence.new.self mid refl refl refl
-    c.args.stored fault (λ s held stands. c.in-Err.ensures.fault s held stands (λ oom. is.1 (c.edit_fault.ensures ∙ oom)) ∙ ap (λ f. Err f) (sym c.edit_fault.ensures)) c.in-Err.ensures.err)))
+    c.args.stored fault (λ s state stands. c.in-Err.ensures.fault s state stands (λ oom. is.1 (c.edit_fault.ensures ∙ oom)) ∙ ap (λ f. Err f) (sym c.edit_fault.ensures)) c.in-Err.ensures.err)))
     c.refused.ensures
 
 pub returns-in_ok-push-in-Ok-clause-stores : goal.returns-in_ok-push-in-Ok-clause-stores

@@ -4,7 +4,7 @@ use mir.Val.{SFits}
 use Rattle.std.proofs.lemmas.Int.{to_z-of_z}
 use Rattle.room_model.specs.Worlds.{map_val}
 use Rattle.room_model.specs.declared.line.OutLine.TheVariants as line
-use Rattle.sync_world.specs.Holding.{held_of}
+use Rattle.sync_world.specs.States.{client_state}
 use Rattle.sync_world.proofs.EventLemmas.{show_done}
 use Rattle.sync_world.proofs.ShowLemmas.{shown_is, others_are}
 use Rattle.sync_world.proofs.live.Live.show.Goals as goal
@@ -15,10 +15,10 @@ returns c schemas world keeps =
     show_done schemas world c.args.self.now keeps c.args.number c.in-Some.at c.index.result.now c.in-Some.ensures.found.0 c.in-Some.ensures.found.1 c.index.ensures
     _ c.in_ok-one_line.field-0
     (λ client kept at.
-    let held = held_of schemas world.room.history client in
-    let clock = to_z-of_z w64 c.reached.result range ∙ c.reached.ensures schemas held kept.peer in
-    let owed = c.owed.ensures schemas held kept.peer in
-    let doc = c.in_ok-document.ensures schemas held kept.peer ∙ ap map_val (shown_is schemas world c.args.self.now keeps c.args.number client at) in
-    let others = c.in_ok-others.ensures schemas held kept.peer ∙ ap map_val (others_are schemas world c.args.self.now keeps c.args.number client at) in
+    let state = client_state schemas world.room.history client in
+    let clock = to_z-of_z w64 c.reached.result range ∙ c.reached.ensures schemas state kept.peer in
+    let owed = c.owed.ensures schemas state kept.peer in
+    let doc = c.in_ok-document.ensures schemas state kept.peer ∙ ap map_val (shown_is schemas world c.args.self.now keeps c.args.number client at) in
+    let others = c.in_ok-others.ensures schemas state kept.peer ∙ ap map_val (others_are schemas world c.args.self.now keeps c.args.number client at) in
     λ i. line.Show c.args.number (clock i) (doc i) (others i) (owed i))
     c.in_ok-one_line.ensures

@@ -14,7 +14,7 @@ pub returns-then-branch-clause-step : goal.returns-then-branch-clause-step
 returns-then-branch-clause-step g c = λ schemas world keeps.
     subst (λ n. Answers schemas world (on_undo schemas n world) (Ok c.in_ok-one_line.field-0) c.push_more.new.self) c.in-Some.ensures.found.0
     (undo_done schemas world c.args.self.now keeps c.in-Some.at c.index_mut.result.now c.in-Some.ensures.found.1 c.index_mut.ensures.value c.undo.new.self _ refl refl refl
-    (λ s held stands. sym c.if-branch.true ∙ c.in_ok-undo.ensures.answer s held stands) c.in_ok-undo.ensures.ok c.owed-owed.result c.owed-owed.ensures c.push_more.new.self
+    (λ s state stands. sym c.if-branch.true ∙ c.in_ok-undo.ensures.answer s state stands) c.in_ok-undo.ensures.ok c.owed-owed.result c.owed-owed.ensures c.push_more.new.self
     c.in_ok-push_more.ensures.pushed c.in_ok-push_more.ensures.given c.in_ok-one_line.field-0
     (c.in_ok-one_line.ensures ∙ ap (λ n. line.Undo n true ∷ []) (sym c.in-Some.ensures.found.0)))
 
@@ -23,7 +23,7 @@ returns-clause-step g c = λ schemas world keeps.
     let mid : Live = record c.args.self.now { clients = with_item c.args.self.now.clients c.in-Some.at (record c.index_mut.result.now { peer = c.undo.new.self }) } in
     subst (λ n. Answers schemas world (on_undo schemas n world) (Ok c.in_ok-one_line-2.field-0) mid) c.in-Some.ensures.found.0
     (undo_not_done schemas world c.args.self.now keeps c.in-Some.at c.index_mut.result.now c.in-Some.ensures.found.1 c.index_mut.ensures.value c.undo.new.self mid refl refl refl
-    (λ s held stands. sym c.if-branch.false ∙ c.in_ok-undo.ensures.answer s held stands) c.in_ok-undo.ensures.ok c.in_ok-one_line-2.field-0
+    (λ s state stands. sym c.if-branch.false ∙ c.in_ok-undo.ensures.answer s state stands) c.in_ok-undo.ensures.ok c.in_ok-one_line-2.field-0
     (c.in_ok-one_line-2.ensures ∙ ap (λ n. line.Undo n false ∷ []) (sym c.in-Some.ensures.found.0)))
 
 pub returns-then-branch-clause-stores : goal.returns-then-branch-clause-stores

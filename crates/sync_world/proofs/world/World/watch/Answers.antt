@@ -41,7 +41,7 @@ returns-clause-err c = on_err_so c.watch.result _ _
 pub returns-clause-stands : goal.returns-clause-stands
 returns-clause-stands c = λ schemas world stands.
     still_stands schemas world c.args.self.now c.args.client c.index_mut.result.now c.watch.new.self c.requires c.index_mut.ensures.value
-    (λ held is. c.watch.ensures.stands schemas held is) stands
+    (λ state is. c.watch.ensures.stands schemas state is) stands
 
 pub returns-clause-stores : goal.returns-clause-stores
 returns-clause-stores c =
