@@ -1,2 +1,3 @@
 pub mod PeerLemmas
 pub mod CopyLemmas
+pub mod WatchLemmas

@@ -3,7 +3,6 @@ pub mod TellingLemmas
 pub mod StoreLemmas
 pub mod KeepingLemmas
 pub mod EventLemmas
-pub mod WatchLemmas
 pub mod TellLemmas
 pub mod LeavingLemmas
 pub mod ConsequenceLemmas

@@ -28,7 +28,7 @@ use Rattle.world_views.proofs.TellingLemmas.{maps_of, one_tells, AreQuietBut}
 use Rattle.world_views.proofs.StoreLemmas.{shown_are, store_shows}
 use Rattle.world_views.proofs.KeepingLemmas.{one_view, quiet_still, got_watched, got_before, same_records}
 use Rattle.world_views.proofs.EventLemmas.{many_stores, tells_nothing}
-use Rattle.world_views.proofs.WatchLemmas.{some_of, new_watch, told_alike}
+use Rattle.sync_peer.proofs.WatchLemmas.{some_of, new_watch, told_alike}
 
 -- a client that was made, with what it watches and its store
 pub record IsMade (schemas : WorldSchemas EditFault) (client : ℕ) (viewed : Viewed) (code : World) : Type 0 where

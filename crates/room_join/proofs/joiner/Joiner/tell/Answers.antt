@@ -4,7 +4,7 @@ use Rattle.live_views.specs.Watches.{Stand}
 use Rattle.sync_peer.specs.Calls.{shown}
 use Rattle.sync_peer.specs.Viewing.{watched}
 use Rattle.room_join.specs.Joiners.{told_line}
-use Rattle.room_join.proofs.WatchLemmas.{told_alike}
+use Rattle.sync_peer.proofs.WatchLemmas.{told_alike}
 use Rattle.room_join.proofs.joiner.Joiner.tell.Goals as goal
 
 pub returns : goal.returns

@@ -3,7 +3,8 @@ use Rattle.signal_core.specs.declared.watch.WatchFault.TheVariants as watch_faul
 use Rattle.room_model.specs.declared.fault.StepFault.TheVariants.{Limit}
 use Rattle.sync_peer.specs.Viewing.{watched}
 use Rattle.room_join.specs.Joiners.{with_watch}
-use Rattle.room_join.proofs.WatchLemmas.{new_watch, some_of, not_full, full_where, least_free, adds_watch, watches_more, watches_no_more}
+use Rattle.sync_peer.proofs.WatchLemmas.{new_watch, some_of, not_full, full_where, least_free, adds_watch}
+use Rattle.room_join.proofs.WatchLemmas.{watches_more, watches_no_more}
 use Rattle.room_join.proofs.joiner.Joiner.watch.Goals as goal
 
 pub returns-in-Ok : goal.returns-in-Ok

@@ -4,7 +4,7 @@ use Rattle.std.proofs.lemmas.Bool.{cases_lt}
 use Rattle.std.proofs.lemmas.Result.{IfOk-weaker}
 use Rattle.world_views.specs.Views.{told_line}
 use Rattle.world_views.proofs.EventLemmas.{still_told}
-use Rattle.world_views.proofs.WatchLemmas.{some_of}
+use Rattle.sync_peer.proofs.WatchLemmas.{some_of}
 use Rattle.world_views.proofs.TellLemmas.{is_made, nobody_tells, lines_are, told_keeps, has_watches, is_closed, told_has}
 use Rattle.world_views.proofs.viewed.ViewedWorld.tell.Goals as goal
 

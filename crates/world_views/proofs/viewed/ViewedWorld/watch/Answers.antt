@@ -4,7 +4,7 @@ use Rattle.record_store.specs.Seen.{watches}
 use Rattle.signal_core.specs.declared.watch.WatchFault.TheVariants as watch_fault
 use Rattle.world_views.specs.Views.{tells, with_watch}
 use Rattle.world_views.specs.Standing.{Keeps}
-use Rattle.world_views.proofs.WatchLemmas.{some_of, new_watch, least_free, not_full, full_where, adds_watch}
+use Rattle.sync_peer.proofs.WatchLemmas.{some_of, new_watch, least_free, not_full, full_where, adds_watch}
 use Rattle.world_views.proofs.TellLemmas.{is_made, has_watches, stand_there, watch_may, watch_stays, watches_more, watches_no_more}
 use Rattle.world_views.proofs.viewed.ViewedWorld.watch.Goals as goal
 

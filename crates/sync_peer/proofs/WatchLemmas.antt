@@ -1,10 +1,10 @@
--- A client watches a further view, and tells what it has to tell.
-use Rattle.std.proofs.Common.{◌≡◌, ◌≢◌, ℕ, zero, suc, ◌<◌, ◌≤◌, nat_le, nat_lt, Bool, true, false, List, [], ◌∷◌, ◌++◌, length, Option, Some, None, is_some, option_map, map, refl, sym, ap, subst, ◌∙◌, arith}
+-- What a client watches, as the watches of a store have it: a further view, and what was told.
+use Rattle.std.proofs.Common.{◌≡◌, ◌≢◌, ℕ, zero, suc, ◌<◌, ◌≤◌, nat_le, nat_lt, Bool, true, false, List, [], ◌∷◌, ◌++◌, length, Option, Some, None, is_some, map, refl, sym, ap, subst, ◌∙◌, arith}
 use Rattle.std.specs.Prelude.{slice_index_or, IsNone, IsSome}
 use Rattle.std.proofs.lemmas.Bool.Decides.{nat_tests}
 use Rattle.rooms_val.specs.Data.{Pairs}
 use Rattle.shape_tree.specs.declared.view.View.{View}
-use Rattle.signal_core.specs.Watches.{watch_at, IsLeastFree, IsFull, IsWatched}
+use Rattle.signal_core.specs.Watches.{watch_at, IsLeastFree, IsFull}
 use Rattle.signal_core.specs.declared.watch.TheConstants.{MOST_WATCHES}
 use Rattle.signal_core.specs.declared.watch.Watch.{Watch}
 use Rattle.tl_rules.specs.declared.key.TlKey.{TlKey}
