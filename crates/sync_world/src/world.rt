@@ -150,6 +150,21 @@ impl World {
         }
     }
 
+    /// Whether memory ran out, so that every further step returns `OutOfMemory`.
+    pub fn is_spent(&self) -> bool
+        ensures { result ≡ self.now.spent }
+    {
+        self.spent
+    }
+
+    /// Has every further step return `OutOfMemory`. It is for who does more at a step, and was refused
+    /// memory for that.
+    pub fn spend(&mut self)
+        ensures { self.new.spent ≡ true }
+    {
+        self.spent = true;
+    }
+
     /// The client of a number, which was made. It stands for the client of the definitions with the
     /// base that this has of the room, and its store has what the client watches, with what was last
     /// told of that.

@@ -98,8 +98,8 @@ module _ (trace : Bool) (e : RecordedEvent) (old new : ViewedWorld) where
       let Brings : World → Type 0 = λ w. (after : Client) → slice_get w.clients number ≡ Some after → shown_in schemas w after ≡ before in
       record {
         world = answered.0.viewed.world;
-        stands = answered.3.keeps.world;
-        shows = subst Brings happened.2 (λ after there. shows_again schemas stands.keeps.world.keeps.fits.tables trace viewed.world number name before happened.0 after own since goes happened.1 there);
+        stands = answered.3.world;
+        shows = subst Brings happened.2 (λ after there. shows_again schemas stands.world.keeps.fits.tables trace viewed.world number name before happened.0 after own since goes happened.1 there);
       }
 
   pub closing : (answer : Result (Vec PrintedLine) (StepFault EditFault)) → Leads answer
@@ -109,6 +109,6 @@ module _ (trace : Bool) (e : RecordedEvent) (old new : ViewedWorld) where
       let answered = leads schemas viewed stands in
       record {
         world = answered.0.viewed.world;
-        stands = answered.3.keeps.world;
-        closes = closes_by schemas trace e viewed answered.0 stands.keeps.world.keeps.reachable answered.1;
+        stands = answered.3.world;
+        closes = closes_by schemas trace e viewed answered.0 stands.world.keeps.reachable answered.1;
       }

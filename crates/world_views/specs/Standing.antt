@@ -1,5 +1,5 @@
 -- For which worlds of the definitions, with what their clients watch, a world of the code stands.
-use Rattle.std.specs.Prelude.{◌≡◌, ◌≢◌, ℕ, List, [], map, Bool, true, false, Option, None, Some, slice_get, Result, Ok, Err}
+use Rattle.std.specs.Prelude.{◌≡◌, ◌≢◌, ℕ, List, [], map, Option, None, Some, slice_get, Result, Ok, Err}
 use Rattle.std.specs.Global.{Vec}
 use Rattle.record_store.specs.Seen.{Seen, records, begun, watches}
 use Rattle.live_views.specs.Watches.{Watched, Stand, news}
@@ -48,20 +48,14 @@ After schemas None viewed code = Keeps schemas viewed code
 After schemas (Some client) viewed code = MayTell schemas client viewed code
 
 -- a world whose memory never ran out stands for one of the definitions
-pub record Stands (schemas : WorldSchemas EditFault) (viewed : Viewed) (code : ViewedWorld) : Type 0 where
-  pub going : code.spent ≡ false
-  pub keeps : Keeps schemas viewed code.world
+abbrev pub Stands : WorldSchemas EditFault → Viewed → ViewedWorld → Type 0
+Stands schemas viewed code = Keeps schemas viewed code.world
 
 -- a step returns the lines, and the code stands for the next world. Or it returns the fault, and the code stands for the world as it was.
 -- Where memory ran out nothing is said
 abbrev pub StepsTo : WorldSchemas EditFault → Viewed → Outcome EditFault → Result (Vec PrintedLine) (StepFault EditFault) → ViewedWorld → Type 0
 StepsTo schemas viewed outcome (Ok lines) code = (made : Stepped) × (outcome ≡ Ok made) × (lines.items ≡ made.lines) × Stands schemas made.viewed code
 StepsTo schemas viewed outcome (Err fault) code = fault ≢ OutOfMemory → (outcome ≡ Err fault) × Stands schemas viewed code
-
--- whether an answer says that memory ran out
-abbrev pub is_spent : Result (Vec PrintedLine) (StepFault EditFault) → Bool
-is_spent (Err OutOfMemory) = true
-is_spent other = false
 
 -- where a client joins, its version is one of the tables'; a paste moves by at most 2^53 - 1 in each direction. Any watch and
 -- any query is playable

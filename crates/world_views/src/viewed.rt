@@ -1,5 +1,5 @@
 //! A world whose clients watch views, which plays a recording event by event.
-ghost use Rattle.std.specs.Prelude.{◌≡◌, ◌∷◌, [], ℕ, Bool, List, Some, None, true, IfOk, OnOk, Err};
+ghost use Rattle.std.specs.Prelude.{◌≡◌, ◌≢◌, [], ℕ, List, true, IfOk, OnOk, Ok, Err};
 ghost use Rattle.rooms_val.specs.Data.{Pairs};
 ghost use Rattle.room_model.specs.Schemas.{WorldSchemas};
 ghost use Rattle.room_model.specs.Rooms.{Room};
@@ -17,7 +17,7 @@ ghost use Rattle.sync_world.specs.Entries.{ReadonlyEditNothing, AuthorsNameTheir
 ghost use Rattle.sync_world.specs.Entries.{OthersRemovePresences, ClosesSince};
 ghost use Rattle.sync_world.specs.Restoring.{IsSinceMark, GoesBack, Shows};
 ghost use Rattle.world_views.specs.Views.{Viewed, nothing_viewed, nobody_viewing, tells, on_event, on_watch, on_query, after_recorded};
-ghost use Rattle.world_views.specs.Standing.{Keeps, MayTell, After, Stands, StepsTo, IsPlayable, is_spent};
+ghost use Rattle.world_views.specs.Standing.{Keeps, MayTell, After, Stands, StepsTo, IsPlayable};
 
 use crate::lines::{add_told, one_line, printed};
 use live_views::WatchFault;
@@ -37,10 +37,8 @@ type Answer = Result<Vec<PrintedLine>, StepFault<EditFault>>;
 /// A room, the clients over it, what is in flight between them, and what each client watches.
 #[derive(Drop)]
 pub struct ViewedWorld {
-    // The world. Its clients' stores have what they watch. Nothing is said of it once memory ran out.
+    // The world. Its clients' stores have what they watch. It is spent also where memory ran out beside it.
     world: World,
-    // Whether memory ran out.
-    spent: bool,
 }
 
 impl ViewedWorld {
@@ -61,10 +59,7 @@ impl ViewedWorld {
             → world_of.Stands schemas (world_over room) world → stores_of world ≡ []
             → Stands schemas (nobody_viewing (world_over room)) result }
     {
-        ViewedWorld {
-            world,
-            spent: false,
-        }
+        ViewedWorld { world }
     }
 
     /// Lets an event of a recording happen, and returns the lines that it prints: its own, with
@@ -106,20 +101,17 @@ impl ViewedWorld {
         ensures closing { OnOk result ((schemas : WorldSchemas EditFault) (viewed : Viewed)
             → Stands schemas viewed self.old
             → ClosesSince schemas viewed.world.room self.new.world) }
-        ensures spent { self.old.spent ≡ true
-            → (result ≡ Err StepFault.OutOfMemory) × (self.new.spent ≡ true) }
-        ensures spends { result ≡ Err StepFault.OutOfMemory → self.new.spent ≡ true }
+        ensures spent { self.old.world.spent ≡ true
+            → (result ≡ Err StepFault.OutOfMemory) × (self.new.world.spent ≡ true) }
+        ensures spends { result ≡ Err StepFault.OutOfMemory → self.new.world.spent ≡ true }
     {
-        if self.spent {
+        if self.world.is_spent() {
             return Err(StepFault::OutOfMemory);
         }
         match self.take(alloc, event, trace, steps) {
-            Ok(answer) => {
-                self.spent = is_spent(&answer);
-                answer
-            }
+            Ok(answer) => answer,
             Err(_) => {
-                self.spent = true;
+                self.world.spend();
                 Err(StepFault::OutOfMemory)
             }
         }
@@ -132,7 +124,7 @@ impl ViewedWorld {
         &self.world
     }
 
-    // Lets an event of a recording happen. Where memory is refused nothing is said of the world.
+    // Lets an event of a recording happen. Where memory is refused beside the world nothing is said of it.
     fn take<L: Ledger>(
         &mut self,
         alloc: Global,
@@ -141,9 +133,10 @@ impl ViewedWorld {
         steps: &mut Steps<L>,
     ) -> Mem<Answer>
         requires { IsPlayable event }
-        ensures { IfOk result (λ answer. (schemas : WorldSchemas EditFault) (viewed : Viewed)
+        ensures steps { IfOk result (λ answer. (schemas : WorldSchemas EditFault) (viewed : Viewed)
             → Stands schemas viewed self.old
             → StepsTo schemas viewed (after_recorded schemas trace viewed event) answer self.new) }
+        ensures spends { result ≡ Ok (Err StepFault.OutOfMemory) → self.new.world.spent ≡ true }
     {
         match event {
             RecordedEvent::World(event) => self.happen(alloc, event, trace, steps),
@@ -165,9 +158,10 @@ impl ViewedWorld {
         steps: &mut Steps<L>,
     ) -> Mem<Answer>
         requires { IsPlayed event }
-        ensures { IfOk result (λ answer. (schemas : WorldSchemas EditFault) (viewed : Viewed)
+        ensures steps { IfOk result (λ answer. (schemas : WorldSchemas EditFault) (viewed : Viewed)
             → Stands schemas viewed self.old
             → StepsTo schemas viewed (on_event schemas trace event viewed) answer self.new) }
+        ensures spends { result ≡ Ok (Err StepFault.OutOfMemory) → self.new.world.spent ≡ true }
     {
         let changed = changed_by(&event);
         match self.world.step(alloc, event, trace, steps) {
@@ -187,9 +181,10 @@ impl ViewedWorld {
         view: &View,
         steps: &mut Steps<L>,
     ) -> Mem<Answer>
-        ensures { IfOk result (λ answer. (schemas : WorldSchemas EditFault) (viewed : Viewed)
+        ensures steps { IfOk result (λ answer. (schemas : WorldSchemas EditFault) (viewed : Viewed)
             → Stands schemas viewed self.old
             → StepsTo schemas viewed (on_watch schemas client view.now viewed) answer self.new) }
+        ensures spends { result ≢ Ok (Err StepFault.OutOfMemory) }
     {
         if !self.world.has_client(client) {
             return Ok(Err(StepFault::NoSuchClient));
@@ -204,10 +199,11 @@ impl ViewedWorld {
     // A client asks for the ids of the records of a type, among those that it shows, that meet a
     // query.
     fn query(&self, alloc: Global, client: u64, type_name: &str, query: &Query) -> Mem<Answer>
-        ensures { IfOk result (λ answer. (schemas : WorldSchemas EditFault) (viewed : Viewed)
+        ensures steps { IfOk result (λ answer. (schemas : WorldSchemas EditFault) (viewed : Viewed)
             → Stands schemas viewed self.now
             → StepsTo schemas viewed (on_query schemas client type_name.now query.now viewed) answer
             self.now) }
+        ensures spends { result ≢ Ok (Err StepFault.OutOfMemory) }
     {
         if !self.world.has_client(client) {
             return Ok(Err(StepFault::NoSuchClient));
@@ -224,11 +220,10 @@ impl ViewedWorld {
         lines: Vec<PrintedLine>,
         steps: &mut Steps<L>,
     ) -> Mem<Vec<PrintedLine>>
-        ensures told { IfOk result (λ all. (schemas : WorldSchemas EditFault) (viewed : Viewed)
+        ensures { IfOk result (λ all. (schemas : WorldSchemas EditFault) (viewed : Viewed)
             → After schemas changed viewed self.old.world
             → (all.items ≡ (tells schemas lines.items viewed).lines)
             × Keeps schemas (tells schemas lines.items viewed).viewed self.new.world) }
-        ensures spent { self.new.spent ≡ self.old.spent }
     {
         match changed {
             Some(client) => self.tell(alloc, client, lines, steps),
@@ -244,11 +239,10 @@ impl ViewedWorld {
         lines: Vec<PrintedLine>,
         steps: &mut Steps<L>,
     ) -> Mem<Vec<PrintedLine>>
-        ensures told { IfOk result (λ all. (schemas : WorldSchemas EditFault) (viewed : Viewed)
+        ensures { IfOk result (λ all. (schemas : WorldSchemas EditFault) (viewed : Viewed)
             → MayTell schemas client viewed self.old.world
             → (all.items ≡ (tells schemas lines.items viewed).lines)
             × Keeps schemas (tells schemas lines.items viewed).viewed self.new.world) }
-        ensures spent { self.new.spent ≡ self.old.spent }
     {
         if !self.world.has_client(client) {
             return Ok(lines);
@@ -256,11 +250,4 @@ impl ViewedWorld {
         let told = self.world.told(alloc, client, steps)?;
         add_told(client, lines, told)
     }
-}
-
-// Whether an answer says that memory ran out.
-fn is_spent(answer: &Answer) -> bool
-    ensures { result ≡ is_spent answer.now }
-{
-    matches!(answer, Err(StepFault::OutOfMemory))
 }

@@ -17,7 +17,7 @@ pub returns : goal.returns
 returns g c = λ schemas viewed stands.
     let room = c.room-room.result.now in
     let saved = c.in_ok-saved.saved in
-    let world = subst (λ w. world_of.Stands schemas viewed.world w) (sym c.world.ensures) stands.keeps.world in
+    let world = subst (λ w. world_of.Stands schemas viewed.world w) (sym c.world.ensures) stands.world in
     let of_room = c.room-room.ensures.stands schemas viewed.world world in
     let by : schemas.room ≡ decided (tree_of room) = ap (λ s. s.room) (c.room-room.ensures.decided schemas viewed.world world) in
     let held_is : c.in_ok-held.held ≡ schemas.room.versions =

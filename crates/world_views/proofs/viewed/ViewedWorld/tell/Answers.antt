@@ -8,8 +8,8 @@ use Rattle.sync_peer.proofs.WatchLemmas.{some_of}
 use Rattle.world_views.proofs.TellLemmas.{is_made, nobody_tells, lines_are, told_keeps, has_watches, is_closed, told_has}
 use Rattle.world_views.proofs.viewed.ViewedWorld.tell.Goals as goal
 
-pub returns-then-not-has_client-clause-told : goal.returns-then-not-has_client-clause-told
-returns-then-not-has_client-clause-told g c = λ schemas viewed may.
+pub returns-then-not-has_client : goal.returns-then-not-has_client
+returns-then-not-has_client g c = λ schemas viewed may.
     let code = c.args.self.now.world in
     let more : vec_len code.live.clients ≤ c.args.client = elim (cases_lt c.args.client (vec_len code.live.clients)) [
       | inl low ↦ absurd (let no : true ≡ false = sym (c.has_client.ensures.1 low) ∙ c.if-not-has_client.true in cc)
@@ -17,8 +17,8 @@ returns-then-not-has_client-clause-told g c = λ schemas viewed may.
     ] in
     still_told schemas viewed code c.args.lines.items (nobody_tells schemas c.args.client viewed code may more)
 
-pub returns-clause-told : goal.returns-clause-told
-returns-clause-told g c = IfOk-weaker c.add_told.result _ _
+pub returns : goal.returns
+returns g c = IfOk-weaker c.add_told.result _ _
     (λ all is. λ schemas viewed may.
     let old = c.args.self.now.world in
     let new = c.told.new.self in
