@@ -1,7 +1,5 @@
 -- That waits give the messages whose pieces come.
-use Rattle.std.proofs.Common.{◌≡◌, ◌⊎◌, inl, inr, ℕ, zero, suc, ◌+◌, ◌%◌, ◌<◌, ◌≤◌, nat_le, decimal, Bool, true, false, cond, List, [], ◌∷◌, ◌++◌, length, Option, Some, None, Result, Ok, Err, refl, sym, ap, subst, ◌∙◌, arith}
-use Rattle.std.proofs.Math.Nat.{mod-lt}
-use Rattle.std.proofs.lemmas.Fmt.{decimal_by_steps, decimal_injective}
+use Rattle.std.proofs.Common.{◌≡◌, ◌⊎◌, inl, inr, ℕ, zero, suc, ◌+◌, ◌%◌, ◌<◌, ◌≤◌, nat_le, Bool, true, false, cond, List, [], ◌∷◌, ◌++◌, length, Option, Some, None, Result, Ok, Err, refl, sym, ap, subst, ◌∙◌}
 use Rattle.std.specs.Prelude.{IsUtf8}
 use Rattle.std.specs.Option.{option_map_or}
 use Rattle.client_link.specs.Hearing as from_room
@@ -24,56 +22,12 @@ use Rattle.wire_msgs.specs.declared.fault.MsgFault.{MsgFault}
 use Rattle.wire_msgs.specs.declared.fault.MsgFault.TheVariants as msg_fault
 use Rattle.wire_msgs.proofs.OneEachLemmas.{one_server}
 use Rattle.wire_msgs.proofs.ReadsLemmas.{reads_server}
-use Rattle.wire_text.specs.Feeding.{PieceTree, whole, part, Says, Assembly, empty, to_come, turn_fault, joined, given_within, given, gathered_at, after}
+use Rattle.wire_text.specs.Feeding.{PieceTree, whole, Says, Assembly, empty, to_come, turn_fault, joined, given_within, given, gathered_at, after}
 use Rattle.wire_text.specs.Streams.{AreSaid, Gives, PiecesComeBack}
 use Rattle.wire_text.specs.declared.fault.PieceFault.{PieceFault}
 use Rattle.wire_text.specs.declared.fault.PieceFault.TheVariants.{TooLong}
-use Rattle.wire_text.specs.declared.piece.TheConstants.{MOST_TO_COME}
+use Rattle.wire_text.proofs.PieceLemmas.{says_one}
 use Rattle.join_laws.specs.Texts.{texts_in, AreUtf8, AllPieces, AreDue, GivesNext}
-
--- a text says one piece at most
-
-abbrev AreDigits : List ℕ → Type 0
-AreDigits [] = Unit {0}
-AreDigits (d ∷ ds) = (d ≤ 57) × AreDigits ds
-
-digits_more : (ds : List ℕ) (d : ℕ) → d ≤ 57 → AreDigits ds → AreDigits (ds ++ d ∷ [])
-digits_more [] d most digits = (most, tt)
-digits_more (x ∷ ds) d most digits = (digits.0, digits_more ds d most digits.1)
-
-are_digits : (n : ℕ) → n ≤ MOST_TO_COME → AreDigits (decimal n)
-are_digits n few =
-    decimal_by_steps (λ n ds. AreDigits ds) (λ n one. (omega (arith, one), tt))
-    (λ n ds many digits. digits_more ds (48 + n % 10) (let low : n % 10 < 10 = mod-lt n (omega arith) in omega (arith, low)) digits) n (omega (arith, few))
-
-at_bar : (ds es p q : List ℕ) → AreDigits ds → AreDigits es → ds ++ 95 ∷ p ≡ es ++ 95 ∷ q → (ds ≡ es) × (p ≡ q)
-at_bar [] [] p q a b same = (refl, cc)
-at_bar [] (e ∷ es) p q a b same = let head : 95 ≡ e = cc in absurd (omega (arith, head, b.0))
-at_bar (d ∷ ds) [] p q a b same = let head : d ≡ 95 = cc in absurd (omega (arith, head, a.0))
-at_bar (d ∷ ds) (e ∷ es) p q a b same =
-    let head : d ≡ e = cc in
-    let tail : ds ++ 95 ∷ p ≡ es ++ 95 ∷ q = cc in
-    let rest = at_bar ds es p q a.1 b.1 tail in
-    (ap (λ x. x ∷ ds) head ∙ ap (λ xs. e ∷ xs) rest.0, rest.1)
-
-no_digit : (ds p rest : List ℕ) → AreDigits ds → 123 ∷ rest ≡ ds ++ 95 ∷ p → ⊥
-no_digit [] p rest a same = let head : ◌≡◌ {A = ℕ} 123 95 = cc in absurd (omega (arith, head))
-no_digit (d ∷ ds) p rest a same = let head : ◌≡◌ {A = ℕ} 123 d = cc in absurd (omega (arith, head, a.0))
-
-part_bytes : (n : ℕ) (p bytes : List ℕ) → Says (part n p) bytes → (n ≤ MOST_TO_COME) × (bytes ≡ decimal n ++ 95 ∷ p)
-part_bytes n p bytes s = (s.1.0, s.2 ∙ ap (λ ds. ds ++ 95 ∷ p) s.1.1)
-
-says_one : (p q : PieceTree) (bytes : List ℕ) → Says p bytes → Says q bytes → p ≡ q
-says_one (whole t) (whole u) bytes s r = ap whole (s.2 ∙ sym r.2)
-says_one (whole t) (part m u) bytes s r = let b = part_bytes m u bytes r in absurd (no_digit (decimal m) u s.0 (are_digits m b.0) (sym s.1 ∙ b.1))
-says_one (part n t) (whole u) bytes s r = let b = part_bytes n t bytes s in absurd (no_digit (decimal n) t r.0 (are_digits n b.0) (sym r.1 ∙ b.1))
-says_one (part n t) (part m u) bytes s r =
-    let a = part_bytes n t bytes s in
-    let b = part_bytes m u bytes r in
-    let same = at_bar (decimal n) (decimal m) t u (are_digits n a.0) (are_digits m b.0) (sym a.1 ∙ b.1) in
-    let few : n ≤ MOST_TO_COME = a.0 in
-    let few_too : m ≤ MOST_TO_COME = b.0 in
-    ap (λ k. part k t) (decimal_injective n m (omega (arith, few)) (omega (arith, few_too)) same.0) ∙ ap (part m) same.1
 
 -- the text of a message begins with a bracket
 begins : (message : ServerMessage) → (rest : List ℕ) × (text_of (server_val message) ≡ 123 ∷ rest)

@@ -2,7 +2,7 @@
 use Rattle.std.proofs.Common.{◌≡◌, Result, Ok, Err, IfErr, IsErrAnd, subst, sym}
 use Rattle.rooms_val.specs.declared.fault.OpFault.{OpFault}
 use Rattle.rooms_val.specs.declared.fault.OpFault.TheVariants as op_fault
-use Rattle.view_vals.specs.Faults.{Refuses}
+use Rattle.rooms_val.specs.Answers.{Refuses}
 use Rattle.rec_format.specs.Faults.{fault_of_op}
 use Rattle.rec_format.specs.Rows.{RefusesRow}
 use Rattle.rec_format.specs.declared.fault.LineFault.{LineFault}

@@ -184,7 +184,7 @@ found_verb word = by (bytes_eq word (word_of (verb_named word))) refl
         let never : false ≡ true = sym is ∙ (bytes_eq-Decides word (word_of (verb_named word))).1 again in cc)
 
 -- what is said of bytes that are no value has a text
-abbrev ValHasText : ValFault → Type 0
+abbrev pub ValHasText : ValFault → Type 0
 ValHasText f = (text : List ℕ) × (val_fault_text f ≡ Some text)
 
 pub val_texts : (bytes : List ℕ) → IfErr (value_of bytes) ValHasText

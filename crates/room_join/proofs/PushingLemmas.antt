@@ -1,39 +1,17 @@
 -- A client says one push after another, until it can push no more.
-use Rattle.std.proofs.Common.{◌≡◌, ℕ, zero, suc, nat_lt, true, false, ◌&&◌, cond, ◌++◌, List, [], ◌∷◌, map, Some, None, option_map, refl, sym, ap, subst, ◌∙◌, append-nil, append_assoc}
+use Rattle.std.proofs.Common.{◌≡◌, ℕ, suc, ◌&&◌, ◌++◌, List, [], ◌∷◌, map, Some, None, refl, sym, ap, subst, ◌∙◌, append-nil, append_assoc}
 use Rattle.std.specs.Prelude.{unwrap_or}
-use Rattle.std.specs.Option.{option_map_or}
 use Rattle.std.proofs.lemmas.List.{map-append}
 use Rattle.client_link.specs.declared.saying.Saying.{Saying}
 use Rattle.client_link.specs.declared.saying.Saying.TheVariants as say
 use Rattle.room_model.specs.Schemas.{WorldSchemas}
-use Rattle.room_model.specs.Replicas.{Client, Pushing, push_none, push_of, push_one, first_unsent, is_open, next_push, push_times}
-use Rattle.room_model.specs.declared.limits.TheConstants.{MOST_PUSHES}
+use Rattle.room_model.specs.Replicas.{Client, Pushing, push_none, next_push, push_times}
 use Rattle.side_effects.specs.declared.fault.EditFault.{EditFault}
 use Rattle.sync_msgs.specs.declared.client_message.ClientMessage.{ClientMessage}
 use Rattle.sync_client.specs.Calls.{ClientState, pushed}
 use Rattle.sync_peer.specs.Standing as peer_of
 use Rattle.sync_peer.specs.declared.peer.Peer.{Peer}
-
--- messages are given before others
-abbrev pub after_those : List ClientMessage → Pushing → Pushing
-after_those messages pushing = record pushing { messages = messages ++ pushing.messages }
-
-pushed_none : (n : ℕ) (c : Client) → next_push c ≡ None → push_times n c ≡ push_none c
-pushed_none zero c is = refl
-pushed_none (suc n) c is = ap (λ o. option_map_or (λ (one : Pushing). let more = push_times n one.client in record more { messages = one.messages ++ more.messages }) o (push_none c)) is
-
-pushed_one : (n : ℕ) (c : Client) (one : Pushing) → next_push c ≡ Some one → push_times (suc n) c ≡ after_those one.messages (push_times n one.client)
-pushed_one n c one is = ap (λ o. option_map_or (λ (one : Pushing). let more = push_times n one.client in record more { messages = one.messages ++ more.messages }) o (push_none c)) is
-
-pushes_once : (c : Client) (p : Pushing) → next_push c ≡ Some p → (said : ClientMessage) × (p.messages ≡ said ∷ [])
-pushes_once c p is =
-    elim (is_open c.connection && nat_lt c.pushes MOST_PUSHES) as (λ b. cond b (option_map (push_one c) (first_unsent c.pending)) None ≡ Some p → (said : ClientMessage) × (p.messages ≡ said ∷ [])) [
-      | true ↦ elim (first_unsent c.pending) as (λ o. option_map (push_one c) o ≡ Some p → (said : ClientMessage) × (p.messages ≡ said ∷ [])) [
-        | None ↦ λ same. absurd (cc)
-        | Some work ↦ λ same. let it : push_one c work ≡ p = cc in (push_of (suc c.pushes) work, sym (ap (λ (q : Pushing). q.messages) it))
-      ]
-      | false ↦ λ same. absurd (cc)
-    ] is
+use Rattle.room_model.proofs.ClientLemmas.{after_those, pushed_none, pushed_one, pushes_once}
 
 -- so many pushes may follow; what a client that it stood for pushes in all is what it pushed, and what it pushes from here on
 pub record IsPushing (schemas : WorldSchemas EditFault) (state : ClientState) (all left : ℕ) (said : List Saying) (peer : Peer) : Type 0 where

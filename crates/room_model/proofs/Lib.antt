@@ -14,3 +14,4 @@ pub mod BaseLemmas
 pub mod UpdateLemmas
 pub mod OldestLemmas
 pub mod AnswerLemmas
+pub mod ClientLemmas

@@ -1,5 +1,3 @@
-pub mod RefusalLemmas
-pub mod PlaceLemmas
 pub mod DocumentLemmas
 pub mod TombLemmas
 pub mod IdLemmas

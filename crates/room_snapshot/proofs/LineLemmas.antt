@@ -9,6 +9,7 @@ use Rattle.rooms_val.specs.declared.fault.ValFault.{ValFault}
 use Rattle.rooms_val.specs.declared.fault.ValFault.TheVariants as val_fault
 use Rattle.rooms_val.specs.declared.fault.OpFault.{OpFault}
 use Rattle.rooms_val.specs.declared.fault.OpFault.TheVariants as op_fault
+use Rattle.rooms_val.specs.Answers.{Refuses}
 use Rattle.field_ops.proofs.WireLemmas.{same_map}
 use Rattle.migrate_seq.specs.Versions.{Versions, versions_in, numbers_of, schema_of}
 use Rattle.migrate_seq.proofs.Numbers.{versions_in-numbers_of}
@@ -16,7 +17,6 @@ use Rattle.migrate_seq.proofs.SerializedLemmas.{same_schemas}
 use Rattle.room_snapshot.specs.Faults.{fault_of_val, fault_of_op}
 use Rattle.room_snapshot.specs.Lines.{document_val, tombs_by_id, line_fields, line_val}
 use Rattle.room_snapshot.specs.Readings.{IsLine, IsNoRoom, RefusesLine}
-use Rattle.room_snapshot.specs.Rows.{Refuses}
 use Rattle.room_snapshot.specs.Saved.{SavedTree, saved_tree}
 use Rattle.room_snapshot.specs.declared.fault.SnapFault.{SnapFault}
 use Rattle.room_snapshot.specs.declared.fault.SnapFault.TheVariants as fault

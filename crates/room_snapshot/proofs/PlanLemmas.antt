@@ -5,7 +5,7 @@ use Rattle.std.proofs.lemmas.List.{map-append, take_more}
 use Rattle.rooms_val.proofs.Truths.{one_ok}
 use Rattle.rooms_val.specs.Answers.{Gives}
 use Rattle.rooms_val.specs.Data.{Data}
-use Rattle.rooms_val.specs.View.{data_of, pairs_view}
+use Rattle.rooms_val.specs.View.{data_of, pairs_view, field_of}
 use Rattle.rooms_val.specs.declared.val.Val.{Val}
 use Rattle.migrate_seq.specs.declared.fault.PlanFault.{PlanFault}
 use Rattle.migrate_seq.specs.declared.fault.PlanFault.TheVariants as plan_fault
@@ -15,7 +15,6 @@ use Rattle.migrate_seq.specs.Plans.{migrations_at, plan_answer}
 use Rattle.migrate_seq.specs.Versions.{Versions}
 use Rattle.room_snapshot.specs.Ids.{HaveIds}
 use Rattle.room_snapshot.specs.Raised.{all_at, next_clock, raised, raised_by, raised_along_all, AreRaised}
-use Rattle.room_snapshot.specs.Rows.{field_of}
 use Rattle.room_snapshot.specs.Saved.{SavedTree, saved_tree, document_view, documents_view, records_of}
 use Rattle.room_model.specs.declared.saved.SavedRecord.{SavedRecord}
 use Rattle.room_model.specs.declared.saved.SavedRoom.{SavedRoom}

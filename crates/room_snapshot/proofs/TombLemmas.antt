@@ -5,10 +5,9 @@ use Rattle.std.proofs.lemmas.List.Sums.{fold_push}
 use Rattle.rooms_val.specs.Data.{Data, Pairs, null, whole}
 use Rattle.rooms_val.specs.Maps.{AreRising, seen, with_key}
 use Rattle.rooms_val.proofs.MapsLemmas.{put_last, rising_on, rising-seen, seen-with_key}
-use Rattle.rooms_val.specs.View.{data_of, pairs_view}
+use Rattle.rooms_val.specs.View.{data_of, pairs_view, field_of}
 use Rattle.rooms_val.specs.declared.val.Val.{Val}
 use Rattle.room_snapshot.specs.Lines.{tombs_by_id}
-use Rattle.room_snapshot.specs.Rows.{field_of}
 use Rattle.room_snapshot.specs.Saved.{Tombs, tomb_view, tombs_view}
 use Rattle.room_model.specs.declared.saved.SavedTomb.{SavedTomb}
 

@@ -1,7 +1,6 @@
 pub mod Saved
 pub mod Faults
 pub mod Lines
-pub mod Rows
 pub mod Ids
 pub mod Readings
 pub mod Raised

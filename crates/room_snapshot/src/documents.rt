@@ -3,8 +3,8 @@ ghost use Rattle.std.specs.Prelude.{◌≡◌, ◌++◌, ◌∷◌, [], ℤ, IfO
 ghost use Rattle.std.specs.Prelude as std;
 ghost use Rattle.rooms_val.specs.Data.{Data};
 ghost use Rattle.rooms_val.specs.View.{data_of, items_view, pairs_view};
+ghost use Rattle.rooms_val.specs.Answers.{Refuses};
 ghost use Rattle.room_snapshot.specs.Lines.{document_fields, document_val};
-ghost use Rattle.room_snapshot.specs.Rows.{Refuses};
 ghost use Rattle.room_snapshot.specs.Saved.{Documents, document_view, documents_view};
 
 use crate::entries::{number_in, val_in};

@@ -1,8 +1,7 @@
 //! What a field of a line is: its key, and a value of the kind that the key has.
 ghost use Rattle.std.specs.Prelude.{◌≡◌, ℤ, List, IfOk, IfErr};
 ghost use Rattle.rooms_val.specs.Data.{Data, Pairs, whole, list, items_of, map, members_of};
-ghost use Rattle.rooms_val.specs.View.{data_of};
-ghost use Rattle.room_snapshot.specs.Rows.{field_of};
+ghost use Rattle.rooms_val.specs.View.{data_of, field_of};
 
 use rooms_val::{Fields, OpFault, Text, Val, Vals};
 

@@ -2,9 +2,9 @@
 ghost use Rattle.std.specs.Prelude.{◌≡◌, IfOk, IfErr};
 ghost use Rattle.rooms_val.specs.Maps.{AreRising};
 ghost use Rattle.rooms_val.specs.View.{data_of, pairs_view};
+ghost use Rattle.rooms_val.specs.Answers.{Refuses};
 ghost use Rattle.migrate_seq.specs.Versions.{Versions, schema_of};
 ghost use Rattle.room_snapshot.specs.Lines.{line_fields};
-ghost use Rattle.room_snapshot.specs.Rows.{Refuses};
 ghost use Rattle.room_snapshot.specs.Saved.{SavedTree, saved_tree};
 
 use crate::documents::{documents_of, documents_val};

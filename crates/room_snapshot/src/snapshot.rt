@@ -2,10 +2,10 @@
 ghost use Rattle.std.specs.Prelude.{◌≡◌, ◌<◌, ◌≤◌, length, false, IsTrue, IfOk, IfErr};
 ghost use Rattle.rooms_val.specs.Maps.{AreRising};
 ghost use Rattle.rooms_val.specs.View.{data_of};
+ghost use Rattle.rooms_val.specs.Answers.{Refuses};
 ghost use Rattle.migrate_seq.specs.Versions.{Versions};
 ghost use Rattle.room_snapshot.specs.Lines.{line_val};
 ghost use Rattle.room_snapshot.specs.Readings.{IsLine, IsNoRoom, RefusesLine};
-ghost use Rattle.room_snapshot.specs.Rows.{Refuses};
 ghost use Rattle.room_snapshot.specs.Saved.{saved_tree};
 ghost use Rattle.room_snapshot.specs.declared.snapshot.TheConstants.{LONGEST_LINE};
 

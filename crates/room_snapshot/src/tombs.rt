@@ -2,9 +2,9 @@
 ghost use Rattle.std.specs.Prelude.{◌≡◌, ◌++◌, ◌∷◌, [], IfOk, IfErr, OnOk, ℤ};
 ghost use Rattle.rooms_val.specs.Data.{whole};
 ghost use Rattle.rooms_val.specs.Maps.{AreRising, seen, with_key};
-ghost use Rattle.rooms_val.specs.View.{data_of, pairs_view};
+ghost use Rattle.rooms_val.specs.View.{data_of, pairs_view, field_of};
+ghost use Rattle.rooms_val.specs.Answers.{Refuses};
 ghost use Rattle.room_snapshot.specs.Lines.{tombs_by_id};
-ghost use Rattle.room_snapshot.specs.Rows.{Refuses, field_of};
 ghost use Rattle.room_snapshot.specs.Saved.{Tombs, tombs_view};
 
 use room_model::SavedTomb;

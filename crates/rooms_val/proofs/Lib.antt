@@ -7,3 +7,5 @@ pub mod FromJsonLemmas
 pub mod ToJsonLemmas
 pub mod JsonLemmas
 pub mod Truths
+pub mod RefusalLemmas
+pub mod FieldLemmas

@@ -22,6 +22,10 @@ items_view vs = std.map data_of vs
 abbrev pub pairs_view : List (List ℕ × Val) → Pairs
 pairs_view es = seen data_of es
 
+-- a field as its key and what its value stands for
+abbrev pub field_of : List ℕ × Val → List ℕ × Data
+field_of f = (f.0, data_of f.1)
+
 abbrev pub kind_of : Val → Kind
 kind_of v.Null = kind.Null
 kind_of (v.Bool b) = kind.Bool

@@ -1,45 +1,14 @@
 -- Entries by key, and what a level knows once a key is noted.
 use Rattle.std.proofs.Common.{◌≡◌, ◌⊎◌, inl, inr, Bool, true, false, cond, List, [], ◌∷◌, Option, Some, None, is_some, unwrap_or, refl, sym, ◌∙◌, ap, subst}
 use Rattle.std.proofs.Math.Path.{fun_ext}
-use Rattle.std.specs.Ordering.{is_eq, ordering_reverse, match_ordering}
-use Rattle.std.specs.Cmp.{IsTotalOrder}
+use Rattle.std.specs.Ordering.{is_eq, match_ordering}
 use Rattle.std.specs.declared.cmp.Ordering.{Ordering}
 use Rattle.std.specs.declared.cmp.Ordering.TheVariants.{Less, Equal, Greater}
 use Rattle.std.specs.Map.{lookup, remove_entry}
 use Rattle.std.specs.BTreeMap.{is_at, insert_entry}
+use Rattle.signal_values.proofs.AtomLemmas.{IsExact, eq_same, same_eq, not_eq}
 use Rattle.signal_txn.specs.Level.{Level, value_before, began_at, noted}
 use Rattle.signal_txn.specs.Seen.{HasWritten}
-
--- keys compare as equal exactly where they are the same
-pub record IsExact {K : Type 0} (cmp : K → K → Ordering) : Type 0 where
-  pub same : (a b : K) → cmp a b ≡ Equal → a ≡ b
-  pub itself : (a : K) → cmp a a ≡ Equal
-
-pub exact : {K : Type 0} (cmp : K → K → Ordering) → IsTotalOrder cmp → ((a b : K) → cmp a b ≡ Equal → a ≡ b) → IsExact cmp
-exact {K} cmp total same = record { same = same; itself = λ a. at (cmp a a) (total.antisymm a a) }
-  where
-    at : (o : Ordering) → o ≡ ordering_reverse o → o ≡ Equal
-    at Less e = absurd (cc)
-    at Equal e = refl
-    at Greater e = absurd (cc)
-
-pub eq_same : {K : Type 0} (cmp : K → K → Ordering) → IsExact cmp → (a b : K) → is_eq (cmp a b) ≡ true → a ≡ b
-eq_same cmp x a b h = x.same a b (at (cmp a b) h)
-  where
-    at : (o : Ordering) → is_eq o ≡ true → o ≡ Equal
-    at Less e = absurd (cc)
-    at Equal e = refl
-    at Greater e = absurd (cc)
-
-pub same_eq : {K : Type 0} (cmp : K → K → Ordering) → IsExact cmp → (a b : K) → a ≡ b → is_eq (cmp a b) ≡ true
-same_eq {K} cmp x a b e = subst (λ (k : K). is_eq (cmp a k) ≡ true) e (ap is_eq (x.itself a))
-
-pub not_eq : {K : Type 0} (cmp : K → K → Ordering) → IsExact cmp → (a b : K) → (a ≡ b → ⊥) → is_eq (cmp a b) ≡ false
-not_eq cmp x a b ne = at (is_eq (cmp a b)) refl
-  where
-    at : (o : Bool) → is_eq (cmp a b) ≡ o → o ≡ false
-    at true e = absurd (ne (eq_same cmp x a b e))
-    at false e = refl
 
 -- two keys are the same, or not
 pub same_or_not : {K : Type 0} (cmp : K → K → Ordering) → IsExact cmp → (a b : K) → (a ≡ b) ⊎ (a ≡ b → ⊥)

@@ -15,7 +15,8 @@ use Rattle.signal_values.specs.Kept.{IsFreshKey}
 use Rattle.signal_values.specs.Seen.{Seen, IsSetAt, IsListed, IsPutBack, IsNowOrNext, risen}
 use Rattle.signal_txn.specs.Seen.{ChangesOnce, StaysUnlessChanged}
 use Rattle.signal_txn.specs.Undo.{HasEntry, put_over, ArePutBack}
-use Rattle.signal_txn.proofs.EntryLemmas.{IsExact, same_or_not, not_eq, cond_true, cond_false}
+use Rattle.signal_values.proofs.AtomLemmas.{IsExact, not_eq}
+use Rattle.signal_txn.proofs.EntryLemmas.{same_or_not, cond_true, cond_false}
 use Rattle.signal_txn.proofs.UndoLemmas.{set_keeps}
 
 -- some of the entries were put back, and the rest is to be

@@ -14,7 +14,7 @@ use Rattle.signal_txn.specs.Seen.{Seen, IsGotIn, IsSetIn, IsCommitted, IsAborted
 use Rattle.signal_txn.specs.Histories.{Keeps, KeepEach, first_merged}
 use Rattle.signal_txn.specs.Passing.{PassesOn}
 use Rattle.signal_txn.specs.Undo.{AreUndoable, ArePutBack}
-use Rattle.signal_txn.proofs.EntryLemmas.{IsExact}
+use Rattle.signal_values.proofs.AtomLemmas.{IsExact}
 use Rattle.signal_txn.proofs.HistoryLemmas.{keeps_committed, keeps_dropped}
 use Rattle.signal_txn.proofs.PassingLemmas.{passes_committed}
 use Rattle.signal_txn.proofs.WrittenLemmas.{epoch_after, set_writes, set_diffs}

@@ -14,7 +14,8 @@ use Rattle.signal_txn.specs.LastWrites.{LastWrites}
 use Rattle.signal_txn.specs.Level.{Level, value_before, began_at, noted, unwritten}
 use Rattle.signal_txn.specs.Seen.{HasWritten}
 use Rattle.signal_txn.specs.Undo.{AreKnown, AreUndoable}
-use Rattle.signal_txn.proofs.EntryLemmas.{IsExact, eq_same, same_or_not, written_after, written_key, written_stays, began_noted}
+use Rattle.signal_values.proofs.AtomLemmas.{IsExact, eq_same}
+use Rattle.signal_txn.proofs.EntryLemmas.{same_or_not, written_after, written_key, written_stays, began_noted}
 use Rattle.signal_values.proofs.KeptLemmas.{leaves_key}
 
 -- Rows.

@@ -35,8 +35,8 @@ eq_same cmp x a b h = x.same a b (at (cmp a b) h)
 pub same_eq : {K : Type 0} (cmp : K → K → Ordering) → IsExact cmp → (a b : K) → a ≡ b → is_eq (cmp a b) ≡ true
 same_eq {K} cmp x a b e = subst (λ (k : K). is_eq (cmp a k) ≡ true) e (ap is_eq (x.itself a))
 
-no_eq : {K : Type 0} (cmp : K → K → Ordering) → IsExact cmp → (a b : K) → (a ≡ b → ⊥) → is_eq (cmp a b) ≡ false
-no_eq cmp x a b ne = at (is_eq (cmp a b)) refl
+pub not_eq : {K : Type 0} (cmp : K → K → Ordering) → IsExact cmp → (a b : K) → (a ≡ b → ⊥) → is_eq (cmp a b) ≡ false
+not_eq cmp x a b ne = at (is_eq (cmp a b)) refl
   where
     at : (c : Bool) → is_eq (cmp a b) ≡ c → is_eq (cmp a b) ≡ false
     at true e = absurd (ne (eq_same cmp x a b e))
@@ -52,12 +52,12 @@ pub row_of_set : {K V : Type 0} (cmp : K → K → Ordering) → IsExact cmp →
 row_of_set cmp x [] i row other key at same ne = refl
 row_of_set {K} {V} cmp x (r ∷ rows) zero row other key at same ne =
     let one : r ≡ row = cc in
-    skip (is_eq (cmp other.key key)) (no_eq cmp x other.key key (λ e. ne (sym e ∙ same))) other (row_of cmp rows key)
-    ∙ sym (skip (is_eq (cmp r.key key)) (no_eq cmp x r.key key (λ e. ne (sym e ∙ ap (λ (s : Row K V). s.key) one))) r (row_of cmp rows key))
+    skip (is_eq (cmp other.key key)) (not_eq cmp x other.key key (λ e. ne (sym e ∙ same))) other (row_of cmp rows key)
+    ∙ sym (skip (is_eq (cmp r.key key)) (not_eq cmp x r.key key (λ e. ne (sym e ∙ ap (λ (s : Row K V). s.key) one))) r (row_of cmp rows key))
 row_of_set {K} {V} cmp x (r ∷ rows) (suc i) row other key at same ne = ap (λ (o : Option (Row K V)). cond (is_eq (cmp r.key key)) (Some r) o) (row_of_set cmp x rows i row other key at same ne)
 
 pub row_of_append : {K V : Type 0} (cmp : K → K → Ordering) → IsExact cmp → (rows : List (Row K V)) (row : Row K V) (key : K) → (row.key ≡ key → ⊥) → row_of cmp (rows ++ row ∷ []) key ≡ row_of cmp rows key
-row_of_append {K} {V} cmp x [] row key ne = skip (is_eq (cmp row.key key)) (no_eq cmp x row.key key ne) row None
+row_of_append {K} {V} cmp x [] row key ne = skip (is_eq (cmp row.key key)) (not_eq cmp x row.key key ne) row None
 row_of_append {K} {V} cmp x (r ∷ rows) row key ne = ap (λ (o : Option (Row K V)). cond (is_eq (cmp r.key key)) (Some r) o) (row_of_append cmp x rows row key ne)
 
 -- a key has a row, or none

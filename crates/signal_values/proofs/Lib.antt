@@ -2,7 +2,7 @@ mod RowLemmas
 mod WiredLemmas
 mod MarkLemmas
 pub mod ListLemmas
-mod AtomLemmas
+pub mod AtomLemmas
 mod GraphLemmas
 pub mod KeptLemmas
 mod SettleLemmas

@@ -1,26 +1,23 @@
 -- A text is written of each saved room and what goes on from it.
 use Rattle.std.proofs.Common.{◌≡◌, ℕ, zero, suc, ◌+◌, ◌<◌, ◌≤◌, ◌^◌, ◌⊎◌, inl, inr, ℤ, pos, nat_lt, Bool, true, false, not, cond, List, [], ◌∷◌, ◌++◌, length, map as each, codes, fold, if◌then◌else◌, IsTrue, IfErr, MatchOption, Option, Some, None, Result, Ok, Err, refl, sym, ap, subst, ◌∙◌, arith, append_assoc}
 use Rattle.std.specs.Global.{Vec, Global}
-use Rattle.std.specs.Option.{ok_or, option_map_or}
+use Rattle.std.specs.Option.{option_map_or}
 use Rattle.std.specs.Ptr.{null_ptr}
 use Rattle.std.specs.Result.{result_map_both}
 use Rattle.std.specs.Prelude.{find}
-use Rattle.std.specs.Str.{is_utf8, bytes_eq}
+use Rattle.std.specs.Str.{bytes_eq}
 use Rattle.std.proofs.lemmas.Bool.{cases_lt}
 use Rattle.std.proofs.lemmas.List.{append-nil, length-map}
-use Rattle.serde_json.specs.Data as json
 use Rattle.serde_json.specs.Read.{read}
-use Rattle.serde_json.specs.Written.{has_float}
 use Rattle.rooms_val.specs.Data as data'
 use Rattle.rooms_val.specs.Data.{Data, Pairs, null, pairs_of, members_of, list_of, items_of}
-use Rattle.rooms_val.specs.Json.{value_of, value_in, checked_if_read, is_within, deepest}
+use Rattle.rooms_val.specs.Json.{value_of}
 use Rattle.rooms_val.specs.Maps.{AreRising, seen, with_key}
 use Rattle.rooms_val.specs.View.{val_of}
 use Rattle.rooms_val.specs.declared.fault.ValFault.{ValFault}
-use Rattle.rooms_val.specs.declared.fault.ValFault.TheVariants as val
 use Rattle.rooms_val.proofs.DataLemmas.{pairs_of-members_of, list_of-items_of}
 use Rattle.rooms_val.proofs.MapsLemmas.{rising-with_key}
-use Rattle.fault_texts.specs.Texts.{val_fault_text, plan_fault_text, load_fault_text, bad_record_text}
+use Rattle.fault_texts.specs.Texts.{plan_fault_text, load_fault_text, bad_record_text}
 use Rattle.migrate_seq.specs.Order.{first_some}
 use Rattle.migrate_seq.specs.Plans.{migrations_at, plan_of, version_fault, first_fault}
 use Rattle.migrate_steps.specs.Records.{migrated, raised_map}
@@ -39,7 +36,7 @@ use Rattle.replay_job.specs.Replay.{Written}
 use Rattle.replay_job.specs.Texts.{fault_line, unended_text}
 use Rattle.replay_job.proofs.DecideLemmas.{decide_same}
 use Rattle.replay_job.proofs.EveryTextLemmas.{FromTables, written}
-use Rattle.replay_job.proofs.LineLemmas.{found_header}
+use Rattle.replay_job.proofs.LineLemmas.{ValHasText, val_texts, found_header}
 use Rattle.replay_job.proofs.SchemaLemmas.{schema_found}
 use Rattle.room_model.specs.Saves.{are_clocks, unfit, is_too_large, begun_room, load_fault}
 use Rattle.room_model.specs.Schemas.{Schemas}
@@ -137,25 +134,6 @@ line_again s held =
     by_tombs s held ts same =
         λ i. data'.map (members_of ((codes "clock", data'.whole s.clock) ∷ (codes "documents", data'.list (items_of (each document_val s.documents))) ∷ (codes "schema", schema_of held)
         ∷ (codes "tombstoneHistoryStartsAtClock", data'.whole s.start) ∷ (codes "tombstones", data'.map (members_of (seen data'.whole (same i)))) ∷ []))
-
--- ---- what is said of bytes that are no value has a text
-
-abbrev ValHasText : ValFault → Type 0
-ValHasText f = (text : List ℕ) × (val_fault_text f ≡ Some text)
-
-val_texts : (bytes : List ℕ) → IfErr (value_of bytes) ValHasText
-val_texts bytes = by (is_utf8 bytes) (read bytes)
-  where
-    checked_texts : (j : json.Data) (float within deep : Bool) → IfErr (if float then Err val.NotWhole else if not within then Err val.OutOfRange else if deep then Err val.TooDeep else Ok (value_in j)) ValHasText
-    checked_texts j true within deep = (_, refl)
-    checked_texts j false false deep = (_, refl)
-    checked_texts j false true true = (_, refl)
-    checked_texts j false true false = tt
-
-    by : (b : Bool) (o : Option json.Data) → IfErr (checked_if_read (if b then ok_or o val.BadJson else Err val.BadJson)) ValHasText
-    by true (Some j) = checked_texts j (has_float j) (is_within j) (nat_lt deepest (json.depth j))
-    by true None = (_, refl)
-    by false o = (_, refl)
 
 -- a line is that of a saved room, or is refused with a text
 abbrev IsSavedLine : List ℕ → Type 0

@@ -22,7 +22,7 @@ use Rattle.sync_msgs.specs.declared.server_message.ServerMessage.{ServerMessage}
 use Rattle.sync_msgs.specs.declared.server_message.ServerMessage.TheVariants as message
 use Rattle.room_model.specs.Schemas.{WorldSchemas, ClientSchema, records_with}
 use Rattle.room_model.specs.Replicas as model
-use Rattle.room_model.specs.Replicas.{Client, Work, with_work, is_open, first_unsent, pending_diffs, push_one, push_none, schema_of, after_end}
+use Rattle.room_model.specs.Replicas.{Client, with_work, is_open, first_unsent, pending_diffs, push_one, push_none, schema_of, after_end}
 use Rattle.room_model.specs.declared.limits.TheConstants.{MOST_PUSHES}
 use Rattle.client_replica.specs.Standing.{admits_of, document_of, presence_of, IsReplica}
 use Rattle.client_replica.specs.Works.{work_of}
@@ -191,13 +191,6 @@ pub message_version : (admits : List ℕ → Data → Bool) (is_doc : List ℕ �
 message_version admits is_doc state (message.Connect hydration request protocol versions diff clock readonly) = refl
 message_version admits is_doc state (message.Data events) = refl
 message_version admits is_doc state message.Pong = refl
-
-pub end_version : (reason : EndReason) (c : Client) → (after_end reason c).version ≡ c.version
-end_version ClientTooOld c = refl
-end_version ServerTooOld c = refl
-end_version InvalidRecord c = refl
-end_version RoomFull c = refl
-end_version Slow c = refl
 
 -- a presence is refused as an edit is, by the fault of the same name
 pub answers : (result : Result (Unit {0}) PresenceFault) (fault : Option PresenceFault)

@@ -19,7 +19,8 @@ use Rattle.room_model.specs.declared.line.OutLine.TheVariants as line
 use Rattle.sync_msgs.specs.declared.client_message.ClientMessage.{ClientMessage}
 use Rattle.sync_msgs.specs.declared.end_reason.EndReason.{EndReason}
 use Rattle.sync_world.specs.Sending.{sent_by}
-use Rattle.sync_world.proofs.WorldLemmas.{sent_at, sent_past, sent_set, pushed_none}
+use Rattle.room_model.proofs.ClientLemmas.{pushed_none}
+use Rattle.sync_world.proofs.WorldLemmas.{sent_at, sent_past, sent_set}
 
 -- what is found is gone on with, and nothing is a fault
 pub if_some : {X Y : Type 0} (next : X → Y) (o : Option X) (other : Y) (x : X) → o ≡ Some x → option_map_or next o other ≡ next x

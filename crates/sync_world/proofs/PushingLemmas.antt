@@ -8,7 +8,7 @@ use Rattle.sync_msgs.specs.declared.client_message.ClientMessage.{ClientMessage}
 use Rattle.sync_client.specs.Calls.{ClientState, pushed}
 use Rattle.sync_peer.specs.Standing as peer_of
 use Rattle.sync_peer.specs.declared.peer.Peer.{Peer}
-use Rattle.sync_world.proofs.WorldLemmas.{after_those, pushed_none, pushed_one, pushes_once}
+use Rattle.room_model.proofs.ClientLemmas.{after_those, pushed_none, pushed_one, pushes_once}
 
 -- so many pushes may follow; what a client that it stood for pushes in all is what it pushed, and what it pushes from here on
 pub record IsPushing (schemas : WorldSchemas EditFault) (state : ClientState) (all left : ℕ) (messages : List ClientMessage) (peer : Peer) : Type 0 where

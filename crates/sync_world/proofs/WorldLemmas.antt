@@ -1,13 +1,12 @@
 -- What events change of a world of the definitions.
 use Rattle.std.proofs.Common.{◌≡◌, ℕ, zero, suc, ◌<◌, ◌++◌, List, [], ◌∷◌, length, get_or, slice_get, slice_set, Some, None, Ok, Err, Result, refl, sym, ap, ◌∙◌, arith}
 use Rattle.std.specs.Prelude.{option_and_then}
-use Rattle.std.specs.Option.{option_map_or}
 use Rattle.std.proofs.lemmas.Option.{slice_get_within}
 use Rattle.room_model.specs.Schemas.{WorldSchemas, Plan, doc, records_with}
 use Rattle.room_model.specs.Histories.{History, records_of, up_to}
 use Rattle.room_model.specs.Bases.{is_told}
 use Rattle.room_model.specs.Rooms.{Session, Room, session_at, unless_left}
-use Rattle.room_model.specs.Replicas.{Client, new_client, Pushing, push_none, next_push, push_times, seen_by}
+use Rattle.room_model.specs.Replicas.{Client, new_client, seen_by}
 use Rattle.room_model.specs.Worlds.{Channel, World}
 use Rattle.room_model.specs.declared.connection.Connection.{Connection}
 use Rattle.room_model.specs.declared.connection.Connection.TheVariants.{Off, Asking, Open}
@@ -15,7 +14,6 @@ use Rattle.sync_msgs.specs.declared.client_message.ClientMessage.{ClientMessage}
 use Rattle.sync_msgs.specs.declared.end_reason.EndReason.{EndReason}
 use Rattle.world_laws.specs.Reachable.{ReachableWorld}
 use Rattle.world_laws.specs.Told.{base_by, replica_of}
-use Rattle.world_laws.proofs.PushLemmas.{next_same}
 use Rattle.world_laws.proofs.SessionLemmas.{sessions_stand}
 use Rattle.sync_world.specs.Sending.{sent_in, sent_by}
 use Rattle.sync_world.proofs.ListLemmas.{got_some}
@@ -88,20 +86,3 @@ sent_still (c ∷ channels) (suc k) before after at same = ap (λ q. c.to_room �
 pub sent_added : (channels : List Channel) (channel : Channel) → sent_by (channels ++ channel ∷ []) ≡ sent_by channels ++ channel.to_room ∷ []
 sent_added [] channel = refl
 sent_added (c ∷ channels) channel = ap (λ q. c.to_room ∷ q) (sent_added channels channel)
-
--- what a client that pushes gives, after what it gave before
-abbrev pub after_those : List ClientMessage → Pushing → Pushing
-after_those messages pushing = record pushing { messages = messages ++ pushing.messages }
-
--- a client that has nothing more to push is left as it is
-pub pushed_none : (n : ℕ) (c : Client) → next_push c ≡ None → push_times n c ≡ push_none c
-pushed_none zero c is = refl
-pushed_none (suc n) c is = ap (λ o. option_map_or (λ (one : Pushing). let more = push_times n one.client in record more { messages = one.messages ++ more.messages }) o (push_none c)) is
-
--- one that has pushes that first
-pub pushed_one : (n : ℕ) (c : Client) (one : Pushing) → next_push c ≡ Some one → push_times (suc n) c ≡ after_those one.messages (push_times n one.client)
-pushed_one n c one is = ap (λ o. option_map_or (λ (one : Pushing). let more = push_times n one.client in record more { messages = one.messages ++ more.messages }) o (push_none c)) is
-
--- a push is one message
-pub pushes_once : (c : Client) (one : Pushing) → next_push c ≡ Some one → (said : ClientMessage) × (one.messages ≡ said ∷ [])
-pushes_once c one is = let h = next_same c one is in (_, ap (λ (p : Pushing). p.messages) h.2)

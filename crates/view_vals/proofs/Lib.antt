@@ -1,4 +1,3 @@
-pub mod RefusalLemmas
 pub mod ViewsLemmas
 pub mod QueriesLemmas
 pub mod AskingLemmas

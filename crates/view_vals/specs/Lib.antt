@@ -1,4 +1,3 @@
-pub mod Faults
 pub mod Views
 pub mod Queries
 pub mod Laws

@@ -2,7 +2,7 @@
 ghost use Rattle.std.specs.Prelude.{◌≡◌, ℕ, ℤ, ◌∷◌, ◌++◌, [], List, IfOk, IfErr};
 ghost use Rattle.rooms_val.specs.Data.{Data, text, whole, list, items_of};
 ghost use Rattle.rooms_val.specs.View.{data_of, items_view};
-ghost use Rattle.view_vals.specs.Faults.{Refuses};
+ghost use Rattle.rooms_val.specs.Answers.{Refuses};
 ghost use Rattle.view_vals.specs.Queries as queries;
 
 use rooms_val::{Mem, OpFault, Text, Val, Vals};

@@ -2,8 +2,8 @@
 ghost use Rattle.std.specs.Prelude.{◌≡◌, ◌∷◌, ◌++◌, [], List, map, IfOk, IfErr, OnOk};
 ghost use Rattle.rooms_val.specs.Data.{text, list, items_of};
 ghost use Rattle.rooms_val.specs.View.{data_of, items_view};
+ghost use Rattle.rooms_val.specs.Answers.{Refuses};
 ghost use Rattle.shape_tree.specs.declared.query.Query.{Query};
-ghost use Rattle.view_vals.specs.Faults.{Refuses};
 ghost use Rattle.view_vals.specs.Queries.{query_data, named, IsNoQuery};
 
 use crate::parts;

@@ -2,7 +2,7 @@
 ghost use Rattle.std.specs.Prelude.{◌≡◌, ℕ, List, [], ◌∷◌, IfOk, IfErr};
 ghost use Rattle.rooms_val.specs.Data.{text};
 ghost use Rattle.rooms_val.specs.View.{data_of, pairs_view};
-ghost use Rattle.view_vals.specs.Faults.{Refuses};
+ghost use Rattle.rooms_val.specs.Answers.{Refuses};
 ghost use Rattle.view_vals.specs.Views.{view_data, text_alone, IsNoView};
 
 use rooms_val::{Fields, Mem, OpFault, Text, Val};

@@ -1,7 +1,5 @@
-pub mod RefusalLemmas
 pub mod PartLemmas
 pub mod PushLemmas
-pub mod PlaceLemmas
 pub mod TextLemmas
 pub mod EventLemmas
 pub mod KeyLemmas

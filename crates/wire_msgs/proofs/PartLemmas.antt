@@ -5,6 +5,7 @@ use Rattle.rooms_val.specs.Data.{Data, null, boolean, whole, text, list, map, me
 use Rattle.rooms_val.specs.declared.fault.OpFault.{OpFault}
 use Rattle.rooms_val.specs.declared.fault.OpFault.TheVariants.{WrongKind, OutOfMemory}
 use Rattle.rooms_val.proofs.DataLemmas.{members_of-pairs_of}
+use Rattle.rooms_val.specs.Answers.{Refuses}
 use Rattle.field_ops.specs.RecordOps.{RecordOpTree, put, patch, remove, RecordOps, IsSoundDiff, IsSoundChange}
 use Rattle.field_ops.specs.WireRecordOps.{change_data, diff_data}
 use Rattle.field_ops.specs.ViewRecordOps.{change_of}
@@ -12,7 +13,6 @@ use Rattle.field_ops.specs.declared.record_op.RecordOp.{RecordOp}
 use Rattle.field_ops.specs.Readings.{diff_of_data, diff_of_pairs, op_of_data}
 use Rattle.field_ops.proofs.ReadingLemmas.{changes_read, diff_found, change_read, op_found}
 use Rattle.wire_msgs.specs.Messages.{IsPresence, maybe_diff, maybe_op}
-use Rattle.wire_msgs.specs.Rows.{Refuses}
 
 some_of : {A : Type 0} (o : Option A) (x : A) → ok_or o WrongKind ≡ Ok x → o ≡ Some x
 some_of None x is = absurd (cc)

@@ -2,10 +2,6 @@
 use Rattle.std.specs.Prelude.{◌≡◌, ℕ, ℤ, List, [], ◌∷◌, Bool, Option, Some, None, if◌then◌else◌}
 use Rattle.std.specs.Str.{bytes_eq}
 use Rattle.rooms_val.specs.Data.{Data, Pairs}
-use Rattle.rooms_val.specs.View.{data_of}
-use Rattle.rooms_val.specs.declared.val.Val.{Val}
-use Rattle.rooms_val.specs.declared.fault.OpFault.{OpFault}
-use Rattle.rooms_val.specs.declared.fault.OpFault.TheVariants as op_fault
 use Rattle.field_ops.specs.RecordOps.{RecordOps}
 use Rattle.field_ops.specs.declared.record_op.RecordOp.{RecordOp}
 use Rattle.migrate_seq.specs.Versions.{Versions}
@@ -18,15 +14,6 @@ use Rattle.wire_msgs.specs.declared.types.ClientType.{ClientType}
 use Rattle.wire_msgs.specs.declared.types.ClientType.TheVariants as from_client
 use Rattle.wire_msgs.specs.declared.types.ServerType.{ServerType}
 use Rattle.wire_msgs.specs.declared.types.ServerType.TheVariants as from_server
-
--- a field as its key and what its value stands for
-abbrev pub field_of : List ℕ × Val → List ℕ × Data
-field_of f = (f.0, data_of f.1)
-
--- what is read is refused by this fault, for a cause that holds: it stands for nothing, or memory was refused
-abbrev pub Refuses : Type 0 → OpFault → Type 0
-Refuses nothing op_fault.WrongKind = nothing
-Refuses nothing op_fault.OutOfMemory = Unit {0}
 
 -- the value of the first field, where that has the key
 abbrev pub first_at : List ℕ → Pairs → Option Data

@@ -1,8 +1,9 @@
 //! The fields of a client's message of each type, in the order of their keys.
 ghost use Rattle.std.specs.Prelude.{◌≡◌, ◌∷◌, IfOk, IfErr};
-ghost use Rattle.rooms_val.specs.View.{pairs_view};
+ghost use Rattle.rooms_val.specs.View.{pairs_view, field_of};
+ghost use Rattle.rooms_val.specs.Answers.{Refuses};
 ghost use Rattle.wire_msgs.specs.Messages.{client_fields, IsProperClient};
-ghost use Rattle.wire_msgs.specs.Rows.{IsOfNoClient, Refuses, field_of};
+ghost use Rattle.wire_msgs.specs.Rows.{IsOfNoClient};
 ghost use Rattle.wire_msgs.specs.declared.types.ClientType.TheVariants as from_client;
 
 use crate::entries::{check_type, clock_in, number_in, text_in, val_in};

@@ -1,10 +1,9 @@
 //! What a field of a message is: its key, and a value of the kind that the key has.
 ghost use Rattle.std.specs.Prelude.{◌≡◌, ℕ, ℤ, List, Bool, IfOk, IfErr};
 ghost use Rattle.rooms_val.specs.Data.{Data, whole, text, boolean};
-ghost use Rattle.rooms_val.specs.View.{data_of};
+ghost use Rattle.rooms_val.specs.View.{data_of, field_of};
 ghost use Rattle.wire_msgs.specs.Events.{typed, IsClock};
 ghost use Rattle.wire_msgs.specs.Messages.{hydration_word};
-ghost use Rattle.wire_msgs.specs.Rows.{field_of};
 ghost use Rattle.sync_msgs.specs.declared.server_message.Hydration.{Hydration};
 
 use rooms_val::{OpFault, Text, Val};

@@ -3,13 +3,13 @@ ghost use Rattle.std.specs.Prelude.{◌≡◌, ℤ, List, IfOk, IfErr};
 ghost use Rattle.std.specs.Prelude as std;
 ghost use Rattle.rooms_val.specs.Data.{text, map, members_of};
 ghost use Rattle.rooms_val.specs.View.{data_of, items_view, pairs_view};
+ghost use Rattle.rooms_val.specs.Answers.{Refuses};
 ghost use Rattle.field_ops.specs.RecordOps.{RecordOps, IsSoundDiff};
 ghost use Rattle.sync_msgs.specs.declared.data_event.Action.{Action};
 ghost use Rattle.sync_msgs.specs.declared.data_event.DataEvent.{DataEvent};
 ghost use Rattle.sync_msgs.specs.declared.data_event.DataEvent.TheVariants as event;
 ghost use Rattle.wire_msgs.specs.Events.{action_val, rebase_fields, event_val, event_fields};
 ghost use Rattle.wire_msgs.specs.Events.{IsProperAction, IsProperEvent, AreProperEvents};
-ghost use Rattle.wire_msgs.specs.Rows.{Refuses};
 
 use crate::entries::{check_type, clock_in, val_in};
 use crate::parts::diff_of;

@@ -1,13 +1,14 @@
 //! The parts of messages that have a form of their own: diffs, schemas and presence.
 ghost use Rattle.std.specs.Prelude.{◌≡◌, ℕ, List, IfOk, IfErr, IfSome, Option, option_map};
 ghost use Rattle.rooms_val.specs.View.{data_of, pairs_view};
+ghost use Rattle.rooms_val.specs.Answers.{Refuses};
 ghost use Rattle.field_ops.specs.RecordOps.{RecordOps, IsSoundDiff};
 ghost use Rattle.field_ops.specs.ViewRecordOps.{change_of};
 ghost use Rattle.field_ops.specs.WireRecordOps.{change_data, diff_data};
 ghost use Rattle.field_ops.specs.declared.record_op.RecordOp.{RecordOp};
 ghost use Rattle.migrate_seq.specs.Versions.{Versions, schema_of};
 ghost use Rattle.wire_msgs.specs.Messages.{IsPresence, maybe_diff, maybe_op};
-ghost use Rattle.wire_msgs.specs.Rows.{Refuses, first_at, past};
+ghost use Rattle.wire_msgs.specs.Rows.{first_at, past};
 
 use field_ops::{Diff, RecordOp, read_diff, read_op};
 use migrate_seq::Serialized;

@@ -1,8 +1,9 @@
 //! The fields of a room's message of each type, in the order of their keys.
 ghost use Rattle.std.specs.Prelude.{◌≡◌, IfOk, IfErr};
 ghost use Rattle.rooms_val.specs.View.{pairs_view};
+ghost use Rattle.rooms_val.specs.Answers.{Refuses};
 ghost use Rattle.wire_msgs.specs.Messages.{server_fields, IsProperServer};
-ghost use Rattle.wire_msgs.specs.Rows.{IsOfNoServer, Refuses};
+ghost use Rattle.wire_msgs.specs.Rows.{IsOfNoServer};
 ghost use Rattle.wire_msgs.specs.declared.types.ServerType.TheVariants as from_server;
 
 use crate::entries::{check_type, clock_in, hydration_in, number_in, text_in, truth_in, val_in};

@@ -1,4 +1,4 @@
 mod CutLemmas
-mod PieceLemmas
+pub mod PieceLemmas
 mod FeedingLemmas
 mod StreamLemmas

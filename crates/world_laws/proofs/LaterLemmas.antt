@@ -17,6 +17,7 @@ use Rattle.room_model.specs.declared.event.Event.{Event}
 use Rattle.room_model.specs.declared.history.Entry.{Entry}
 use Rattle.room_model.proofs.CallLemmas.{got-set}
 use Rattle.room_model.proofs.ClosingLemmas.{by_number}
+use Rattle.room_model.proofs.ClientLemmas.{end_version}
 use Rattle.sync_msgs.specs.declared.client_message.ClientMessage.{ClientMessage}
 use Rattle.sync_msgs.specs.declared.end_reason.EndReason.{EndReason}
 use Rattle.sync_msgs.specs.declared.end_reason.EndReason.TheVariants.{ClientTooOld, ServerTooOld, InvalidRecord, RoomFull, Slow}
@@ -114,13 +115,6 @@ later_set w r n s t at same h = record {
 
 later_entry : (w r : Room) (entry : Entry) → IsLaterRoom w r → IsLaterRoom w (record r { history = entry ∷ r.history })
 later_entry w r entry h = record { first = h.first; grown = grown_entry w.history r.history entry h.grown; entered = h.entered; sessions = h.sessions }
-
-pub end_version : (reason : EndReason) (c : Client) → (after_end reason c).version ≡ c.version
-end_version Slow c = refl
-end_version ClientTooOld c = refl
-end_version ServerTooOld c = refl
-end_version InvalidRecord c = refl
-end_version RoomFull c = refl
 
 pub notice_version : (history : History) (k : ℕ) (c : Client) (notice : Notice) → (after_notice history k c notice).client.version ≡ c.version
 notice_version history k c (snapshot_at clock) = (snapshot_same k clock c).version

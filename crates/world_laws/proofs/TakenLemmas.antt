@@ -36,7 +36,7 @@ use Rattle.world_laws.proofs.PingLemmas.{pings_stand}
 use Rattle.world_laws.proofs.DueLemmas.{next_due}
 use Rattle.world_laws.proofs.BarredLemmas.{barred_stand}
 use Rattle.world_laws.proofs.OwedLemmas.{owed_stand}
-use Rattle.world_laws.proofs.LaterLemmas.{end_version}
+use Rattle.room_model.proofs.ClientLemmas.{end_version}
 use Rattle.world_laws.proofs.CommittedLemmas.{committed_stand}
 use Rattle.world_laws.proofs.OrderLemmas.{events_told, updates_brought, owed_answered}
 use Rattle.world_laws.proofs.ToldLemmas.{session_in}

@@ -1,6 +1,6 @@
 use Rattle.room_snapshot.specs.Lines.{document_fields}
-use Rattle.room_snapshot.proofs.PlaceLemmas.{at_place}
-use Rattle.room_snapshot.proofs.RefusalLemmas.{refused_for}
+use Rattle.rooms_val.proofs.FieldLemmas.{at_place}
+use Rattle.rooms_val.proofs.RefusalLemmas.{refused_for}
 use Rattle.room_snapshot.proofs.documents.document_in.Goals as goal
 
 pub returns-in_err-clock-clause-refused : goal.returns-in_err-clock-clause-refused

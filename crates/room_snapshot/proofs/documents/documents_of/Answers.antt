@@ -1,5 +1,5 @@
 use Rattle.room_snapshot.proofs.DocumentLemmas.{documents_more, no_documents}
-use Rattle.room_snapshot.proofs.RefusalLemmas.{passed_on}
+use Rattle.rooms_val.proofs.RefusalLemmas.{passed_on}
 use Rattle.room_snapshot.proofs.documents.documents_of.Goals as goal
 
 pub returns-in_err-document-clause-refused : goal.returns-in_err-document-clause-refused

@@ -5,14 +5,14 @@ use Rattle.std.proofs.lemmas.Grind.{common_steps}
 use Rattle.std.specs.Prelude as std
 use Rattle.rooms_val.specs.Data.{whole, list, map, items_of, members_of}
 use Rattle.rooms_val.specs.Maps.{seen}
+use Rattle.rooms_val.specs.View.{field_of}
 use Rattle.field_ops.proofs.WireLemmas.{same_map}
 use Rattle.migrate_seq.specs.Versions.{schema_of}
 use Rattle.room_snapshot.specs.Lines.{document_val, documents_val, tombs_by_id, tombs_val, line_fields}
-use Rattle.room_snapshot.specs.Rows.{field_of}
 use Rattle.room_snapshot.specs.Saved.{documents_view, tombs_view}
 use Rattle.room_snapshot.proofs.DocumentLemmas.{same_list}
-use Rattle.room_snapshot.proofs.PlaceLemmas.{at_place, from_place, none_past}
-use Rattle.room_snapshot.proofs.RefusalLemmas.{refused_for, passed_on}
+use Rattle.rooms_val.proofs.FieldLemmas.{at_place, from_place, none_past}
+use Rattle.rooms_val.proofs.RefusalLemmas.{refused_for, passed_on}
 use Rattle.room_snapshot.proofs.line.line_in.Goals as goal
 
 pub returns-in_err-clock-clause-refused : goal.returns-in_err-clock-clause-refused

@@ -2,7 +2,7 @@ use Rattle.std.proofs.Common.{sym, ap, ◌∙◌}
 use Rattle.rooms_val.specs.View.{data_of}
 use Rattle.field_ops.proofs.WireLemmas.{same_map}
 use Rattle.room_snapshot.specs.Lines.{line_fields}
-use Rattle.room_snapshot.proofs.RefusalLemmas.{handed_on}
+use Rattle.rooms_val.proofs.RefusalLemmas.{handed_on}
 use Rattle.room_snapshot.proofs.snapshot.snapshot_of.Goals as goal
 
 pub returns-clause-refused : goal.returns-clause-refused

@@ -1,5 +1,5 @@
 use Rattle.room_snapshot.proofs.TombLemmas.{tombs_more, no_tombs}
-use Rattle.room_snapshot.proofs.RefusalLemmas.{passed_on}
+use Rattle.rooms_val.proofs.RefusalLemmas.{passed_on}
 use Rattle.room_snapshot.proofs.tombs.tombs_in.Goals as goal
 
 pub returns-in_err-tomb-clause-refused : goal.returns-in_err-tomb-clause-refused

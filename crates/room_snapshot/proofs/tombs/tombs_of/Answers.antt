@@ -4,7 +4,7 @@ use Rattle.rooms_val.specs.Maps.{seen}
 use Rattle.rooms_val.proofs.DataLemmas.{rising_pairs}
 use Rattle.room_snapshot.specs.Saved.{tombs_view}
 use Rattle.room_snapshot.proofs.TombLemmas.{rising_tombs, tombs_by_id-rising}
-use Rattle.room_snapshot.proofs.RefusalLemmas.{passed_on}
+use Rattle.rooms_val.proofs.RefusalLemmas.{passed_on}
 use Rattle.room_snapshot.proofs.tombs.tombs_of.Goals as goal
 
 pub returns-in_err-tombs-clause-refused : goal.returns-in_err-tombs-clause-refused

@@ -5,7 +5,8 @@ use Rattle.std.specs.BTreeMap.{is_at}
 use Rattle.std.proofs.lemmas.Option.{slice_get_read}
 use Rattle.signal_values.specs.Cells.{atoms_of}
 use Rattle.signal_txn.specs.Level.{Level, value_before}
-use Rattle.signal_txn.proofs.EntryLemmas.{exact, noted_forgotten}
+use Rattle.signal_values.proofs.AtomLemmas.{exact}
+use Rattle.signal_txn.proofs.EntryLemmas.{noted_forgotten}
 use Rattle.signal_txn.proofs.FromLemmas.{same_some, no_value, read_set, set_back}
 use Rattle.signal_txn.proofs.noting.+set_noted.Goals as goal
 

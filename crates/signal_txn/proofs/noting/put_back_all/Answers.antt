@@ -1,6 +1,6 @@
 use Rattle.std.proofs.Common.{◌≡◌, refl, sym, ◌∙◌, subst}
 use Rattle.signal_values.specs.Seen.{IsPutBack}
-use Rattle.signal_txn.proofs.EntryLemmas.{exact}
+use Rattle.signal_values.proofs.AtomLemmas.{exact}
 use Rattle.signal_txn.proofs.PutBackLemmas.{putting_start, putting_more, putting_epoch, putting_end, putting_first, nothing_left, false_true}
 use Rattle.signal_txn.proofs.noting.put_back_all.Goals as goal
 

@@ -2,7 +2,7 @@ use Rattle.std.proofs.Common.{map, ap, sym, ◌∙◌, arith}
 use Rattle.rooms_val.specs.View.{data_of, items_view}
 use Rattle.view_vals.specs.Queries.{query_data}
 use Rattle.view_vals.proofs.QueriesLemmas.{eq, neq, gt, all, any, not, name_of, no_list, no_query, no_item, depth_item, same_list}
-use Rattle.view_vals.proofs.RefusalLemmas.{passed_on}
+use Rattle.rooms_val.proofs.RefusalLemmas.{passed_on}
 use Rattle.view_vals.proofs.queries.+read.Goals as goal
 
 pub read_queries-read_query-requires : goal.read_queries-read_query-requires

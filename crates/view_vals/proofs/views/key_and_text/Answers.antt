@@ -1,6 +1,6 @@
 use Rattle.std.proofs.Common.{ap}
 use Rattle.rooms_val.specs.View.{data_of, pairs_view}
-use Rattle.view_vals.proofs.RefusalLemmas.{passed_on}
+use Rattle.rooms_val.proofs.RefusalLemmas.{passed_on}
 use Rattle.view_vals.proofs.ViewsLemmas.{one_entry}
 use Rattle.view_vals.proofs.views.key_and_text.Goals as goal
 

@@ -3,11 +3,11 @@ use mir.Syntax.{w64}
 use mir.Val.{to_z, of_z}
 use Rattle.rooms_val.specs.Data.{whole, text}
 use Rattle.wire_msgs.specs.Events.{typed}
-use Rattle.wire_msgs.specs.Rows.{field_of}
-use Rattle.wire_msgs.proofs.PlaceLemmas.{from_place, none_past}
+use Rattle.rooms_val.proofs.FieldLemmas.{from_place, none_past}
 use Rattle.std.proofs.lemmas.Grind.{common_steps}
+use Rattle.rooms_val.specs.View.{field_of}
 use Rattle.migrate_seq.specs.Versions.{schema_of}
-use Rattle.wire_msgs.proofs.RefusalLemmas.{refused_for, passed_on}
+use Rattle.rooms_val.proofs.RefusalLemmas.{refused_for, passed_on}
 use Rattle.wire_msgs.proofs.client.connect_of.Goals as goal
 
 pub returns-in_err-request-clause-refused : goal.returns-in_err-request-clause-refused

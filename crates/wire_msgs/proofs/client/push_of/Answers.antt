@@ -1,6 +1,6 @@
 use Rattle.std.proofs.Common.{arith}
 use Rattle.std.proofs.lemmas.Grind.{common_steps}
-use Rattle.wire_msgs.proofs.RefusalLemmas.{handed_on}
+use Rattle.rooms_val.proofs.RefusalLemmas.{handed_on}
 use Rattle.wire_msgs.proofs.client.push_of.Goals as goal
 
 pub returns-clause-refused : goal.returns-clause-refused

@@ -3,11 +3,11 @@ use Rattle.std.proofs.lemmas.Grind.{common_steps}
 use mir.Syntax.{w64}
 use mir.Val.{to_z, of_z}
 use Rattle.rooms_val.specs.Data.{whole}
-use Rattle.rooms_val.specs.View.{pairs_view}
+use Rattle.rooms_val.specs.View.{pairs_view, field_of}
 use Rattle.wire_msgs.specs.Events.{typed, IsClock}
 use Rattle.wire_msgs.specs.Messages.{maybe_diff, maybe_op}
-use Rattle.wire_msgs.specs.Rows.{field_of, first_at, past}
-use Rattle.wire_msgs.proofs.PlaceLemmas.{from_place, none_past}
+use Rattle.wire_msgs.specs.Rows.{first_at, past}
+use Rattle.rooms_val.proofs.FieldLemmas.{from_place, none_past}
 use Rattle.wire_msgs.proofs.PushLemmas.{made_up}
 use Rattle.wire_msgs.proofs.client.push_with.Goals as goal
 

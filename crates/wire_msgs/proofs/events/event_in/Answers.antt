@@ -1,5 +1,5 @@
 use Rattle.wire_msgs.proofs.EventLemmas.{three, not_three}
-use Rattle.wire_msgs.proofs.RefusalLemmas.{handed_on}
+use Rattle.rooms_val.proofs.RefusalLemmas.{handed_on}
 use Rattle.wire_msgs.proofs.events.event_in.Goals as goal
 
 pub returns-then-entries-eq3-clause-refused : goal.returns-then-entries-eq3-clause-refused

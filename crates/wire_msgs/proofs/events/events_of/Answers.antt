@@ -1,5 +1,5 @@
 use Rattle.wire_msgs.proofs.EventLemmas.{no_events, further, proper_further}
-use Rattle.wire_msgs.proofs.RefusalLemmas.{passed_on}
+use Rattle.rooms_val.proofs.RefusalLemmas.{passed_on}
 use Rattle.wire_msgs.proofs.events.events_of.Goals as goal
 
 pub returns-in_err-event-clause-refused : goal.returns-in_err-event-clause-refused

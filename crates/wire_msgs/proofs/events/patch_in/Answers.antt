@@ -1,7 +1,7 @@
 use Rattle.std.proofs.Common.{arith}
 use Rattle.std.proofs.lemmas.Grind.{common_steps}
 use Rattle.field_ops.specs.WireRecordOps.{diff_data}
-use Rattle.wire_msgs.proofs.RefusalLemmas.{refused_for}
+use Rattle.rooms_val.proofs.RefusalLemmas.{refused_for}
 use Rattle.wire_msgs.proofs.events.patch_in.Goals as goal
 
 pub returns-in_err-val_in-clause-refused : goal.returns-in_err-val_in-clause-refused

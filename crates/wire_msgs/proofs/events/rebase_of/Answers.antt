@@ -1,5 +1,5 @@
 use Rattle.wire_msgs.proofs.EventLemmas.{no_rebase}
-use Rattle.wire_msgs.proofs.RefusalLemmas.{passed_on}
+use Rattle.rooms_val.proofs.RefusalLemmas.{passed_on}
 use Rattle.wire_msgs.proofs.events.rebase_of.Goals as goal
 
 pub returns-in_err-diff-clause-refused : goal.returns-in_err-diff-clause-refused

@@ -1,7 +1,7 @@
 use Rattle.std.proofs.Common.{arith}
 use Rattle.std.proofs.lemmas.Grind.{common_steps}
 use Rattle.wire_msgs.specs.Events.{action_val}
-use Rattle.wire_msgs.proofs.RefusalLemmas.{refused_for, passed_on}
+use Rattle.rooms_val.proofs.RefusalLemmas.{refused_for, passed_on}
 use Rattle.wire_msgs.proofs.events.result_in.Goals as goal
 
 pub returns-in_err-check_type-clause-refused : goal.returns-in_err-check_type-clause-refused

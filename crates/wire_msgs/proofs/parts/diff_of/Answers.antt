@@ -1,6 +1,6 @@
 use Rattle.rooms_val.specs.View.{data_of}
 use Rattle.wire_msgs.proofs.PartLemmas.{diff_is, no_diff}
-use Rattle.wire_msgs.proofs.RefusalLemmas.{passed_on}
+use Rattle.rooms_val.proofs.RefusalLemmas.{passed_on}
 use Rattle.wire_msgs.proofs.parts.diff_of.Goals as goal
 
 pub returns-in_err-diff-clause-refused : goal.returns-in_err-diff-clause-refused

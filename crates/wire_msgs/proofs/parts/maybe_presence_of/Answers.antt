@@ -1,7 +1,7 @@
 use Rattle.std.proofs.Common.{◌≡◌, Some, option_map, refl}
 use Rattle.rooms_val.specs.View.{data_of}
 use Rattle.wire_msgs.proofs.PartLemmas.{no_maybe_presence}
-use Rattle.wire_msgs.proofs.RefusalLemmas.{passed_on}
+use Rattle.rooms_val.proofs.RefusalLemmas.{passed_on}
 use Rattle.wire_msgs.proofs.parts.maybe_presence_of.Goals as goal
 
 pub returns-in_err-presence_of-in-Some-clause-refused : goal.returns-in_err-presence_of-in-Some-clause-refused

@@ -3,7 +3,7 @@ use Rattle.rooms_val.specs.View.{data_of}
 use Rattle.field_ops.specs.RecordOps.{IsSoundChange, patch}
 use Rattle.field_ops.specs.ViewRecordOps.{change_of}
 use Rattle.wire_msgs.proofs.PartLemmas.{op_is, no_presence}
-use Rattle.wire_msgs.proofs.RefusalLemmas.{passed_on}
+use Rattle.rooms_val.proofs.RefusalLemmas.{passed_on}
 use Rattle.wire_msgs.proofs.parts.presence_of.Goals as goal
 
 pub returns-in_err-op-clause-refused : goal.returns-in_err-op-clause-refused

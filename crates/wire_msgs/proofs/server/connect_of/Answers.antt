@@ -4,12 +4,12 @@ use mir.Val.{to_z, of_z}
 use Rattle.rooms_val.specs.Data.{whole, text, boolean}
 use Rattle.wire_msgs.specs.Events.{typed, IsClock}
 use Rattle.wire_msgs.specs.Messages.{hydration_word}
-use Rattle.wire_msgs.specs.Rows.{field_of}
-use Rattle.wire_msgs.proofs.PlaceLemmas.{from_place, none_past}
+use Rattle.rooms_val.proofs.FieldLemmas.{from_place, none_past}
 use Rattle.std.proofs.lemmas.Grind.{common_steps}
+use Rattle.rooms_val.specs.View.{field_of}
 use Rattle.field_ops.specs.WireRecordOps.{diff_data}
 use Rattle.migrate_seq.specs.Versions.{schema_of}
-use Rattle.wire_msgs.proofs.RefusalLemmas.{refused_for, passed_on}
+use Rattle.rooms_val.proofs.RefusalLemmas.{refused_for, passed_on}
 use Rattle.wire_msgs.proofs.server.connect_of.Goals as goal
 
 pub returns-in_err-request-clause-refused : goal.returns-in_err-request-clause-refused

@@ -6,7 +6,7 @@ use Rattle.rooms_val.specs.Data.{list, items_of}
 use Rattle.rooms_val.specs.View.{data_of}
 use Rattle.wire_msgs.specs.Events.{event_val}
 use Rattle.wire_msgs.proofs.EventLemmas.{one_items}
-use Rattle.wire_msgs.proofs.RefusalLemmas.{refused_for, passed_on}
+use Rattle.rooms_val.proofs.RefusalLemmas.{refused_for, passed_on}
 use Rattle.wire_msgs.proofs.server.data_of.Goals as goal
 
 pub returns-in_err-vals-clause-refused : goal.returns-in_err-vals-clause-refused

@@ -6,7 +6,7 @@ use Rattle.signal_txn.specs.declared.write.Write.{Write}
 use Rattle.signal_txn.specs.Level.{Level}
 use Rattle.signal_txn.specs.Seen.{Seen, IsSetIn}
 use Rattle.signal_txn.specs.Undo.{AreUndoable}
-use Rattle.signal_txn.proofs.EntryLemmas.{exact}
+use Rattle.signal_values.proofs.AtomLemmas.{exact}
 use Rattle.signal_txn.proofs.TxnLemmas.{seen_of, set_same_in, set_other_in, noted_undoable, join_undoable}
 use Rattle.signal_txn.proofs.txn.Txn.set.Goals as goal
 

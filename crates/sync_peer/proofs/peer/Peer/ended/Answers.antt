@@ -4,7 +4,8 @@ use Rattle.room_model.specs.Replicas.{after_end}
 use Rattle.sync_client.specs.Standing as client
 use Rattle.undo_marks.specs.Standing as marks
 use Rattle.sync_peer.specs.Calls.{records_of}
-use Rattle.sync_peer.proofs.PeerLemmas.{stands_on, document_is, end_version, end_marks}
+use Rattle.room_model.proofs.ClientLemmas.{end_version}
+use Rattle.sync_peer.proofs.PeerLemmas.{stands_on, document_is, end_marks}
 use Rattle.sync_peer.proofs.peer.Peer.ended.Goals as goal
 
 pub returns : goal.returns

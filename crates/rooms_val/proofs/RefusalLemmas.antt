@@ -2,7 +2,7 @@
 use Rattle.std.proofs.Common.{◌≡◌, Result, Ok, Err, IfErr, IsErrAnd, subst, sym}
 use Rattle.rooms_val.specs.declared.fault.OpFault.{OpFault}
 use Rattle.rooms_val.specs.declared.fault.OpFault.TheVariants.{WrongKind, OutOfMemory}
-use Rattle.wire_msgs.specs.Rows.{Refuses}
+use Rattle.rooms_val.specs.Answers.{Refuses}
 
 for_cause : {P : Type 0} (e : OpFault) → P → Refuses P e
 for_cause WrongKind p = p
