@@ -45,7 +45,7 @@ pub(crate) enum Work {
 }
 
 /// Does the work with a new store and the shapes of these ids. It returns what the work comes to.
-pub(crate) fn worked<L: Ledger>(
+pub(crate) fn do_work<L: Ledger>(
     work: Work,
     alloc: Global,
     ids: &[Text],
@@ -54,10 +54,10 @@ pub(crate) fn worked<L: Ledger>(
 ) -> Mem<i64> {
     let mut store = RecordStore::new(alloc)?;
     match work {
-        Work::View => viewed(alloc, &mut store, ids, calls, steps),
+        Work::View => move_and_tell(alloc, &mut store, ids, calls, steps),
         Work::Put => put(alloc, &mut store, ids, steps),
-        Work::Seek => sought(alloc, &mut store, ids, calls, steps),
-        Work::Walk => walked(alloc, &mut store, ids, calls, steps),
+        Work::Seek => seek_times(alloc, &mut store, ids, calls, steps),
+        Work::Walk => walk_times(alloc, &mut store, ids, calls, steps),
     }
 }
 
@@ -70,14 +70,14 @@ pub(crate) fn put_times<L: Ledger>(
 ) -> Mem<i64> {
     let mut sum = 0i64;
     for _ in 0..calls.count {
-        sum = sum.saturating_add(worked(Work::Put, alloc, ids, calls, steps)?);
+        sum = sum.saturating_add(do_work(Work::Put, alloc, ids, calls, steps)?);
     }
     Ok(sum)
 }
 
 /// Moves one of the shapes of a board at each call, and has the watches of a count and of a frame's box tell what changed. It
 /// returns how much they told.
-fn viewed<L: Ledger>(
+fn move_and_tell<L: Ledger>(
     alloc: Global,
     store: &mut RecordStore,
     ids: &[Text],
@@ -111,11 +111,11 @@ fn put<L: Ledger>(
     if store.depth() > 0 {
         store.commit();
     }
-    Ok(counted(&store.ids(alloc)?))
+    Ok(count_of(&store.ids(alloc)?))
 }
 
 /// Asks a board at each call for the shapes with one x, with an index. It returns how many there were.
-fn sought<L: Ledger>(
+fn seek_times<L: Ledger>(
     alloc: Global,
     store: &mut RecordStore,
     ids: &[Text],
@@ -127,11 +127,11 @@ fn sought<L: Ledger>(
     if store.depth() == 0 {
         refresh(&mut index, alloc, store)?;
     }
-    found(alloc, store, ids, calls, Some(&index))
+    count_of_x(alloc, store, ids, calls, Some(&index))
 }
 
 /// The same without an index.
-fn walked<L: Ledger>(
+fn walk_times<L: Ledger>(
     alloc: Global,
     store: &mut RecordStore,
     ids: &[Text],
@@ -139,11 +139,11 @@ fn walked<L: Ledger>(
     steps: &mut Steps<L>,
 ) -> Mem<i64> {
     put_board(alloc, store, ids, steps)?;
-    found(alloc, store, ids, calls, None)
+    count_of_x(alloc, store, ids, calls, None)
 }
 
 /// How many shapes have the x of each call.
-fn found(
+fn count_of_x(
     alloc: Global,
     store: &RecordStore,
     ids: &[Text],
@@ -156,13 +156,13 @@ fn found(
         let x = calls.number(count, call) / OF_AN_X;
         let query = Query::Eq(Text::of(alloc, "x")?, Val::Int(i64::from(x)));
         let found = store_query::ids(alloc, &query, store, "shape", index)?;
-        sum = sum.saturating_add(counted(&found));
+        sum = sum.saturating_add(count_of(&found));
     }
     Ok(sum)
 }
 
 /// How many ids there are.
-fn counted(ids: &[Text]) -> i64 {
+fn count_of(ids: &[Text]) -> i64 {
     i64::try_from(ids.len()).unwrap_or(i64::MAX)
 }
 

@@ -1,5 +1,5 @@
 //! Data messages of one patch each, which a client takes.
-use crate::made::{moved, record_of};
+use crate::made::{move_diff, record_of};
 use crate::touching::Calls;
 use doc_store::MapDoc;
 use field_ops::{Diff, RecordOp};
@@ -27,7 +27,7 @@ pub(crate) enum Messages {
 
 /// Makes a message at each call, by which another moves one of the shapes of these ids, and lets a client with a pending edit
 /// of the first take it, where it is to be taken. It returns the clock that the client reached.
-pub(crate) fn called<L: Ledger>(
+pub(crate) fn call_client<L: Ledger>(
     messages: Messages,
     alloc: Global,
     ids: &[Text],
@@ -58,7 +58,7 @@ fn call<L: Ledger>(
     connect(alloc, client)?;
     take(alloc, client, &answer(alloc, ids)?, steps)?;
     if let Some(id) = ids.first() {
-        drop(client.edit(alloc, moved(alloc, id, 5)?, false, steps)?);
+        drop(client.edit(alloc, move_diff(alloc, id, 5)?, false, steps)?);
     }
     for call in 0..calls.count {
         if let Some(id) = calls.id(ids, call) {
@@ -119,7 +119,7 @@ fn put_shapes(alloc: Global, diff: &mut Diff, ids: &[Text]) -> Mem<()> {
 /// The message that another moved the shape of an id.
 fn message(alloc: Global, id: &Text) -> Mem<ServerMessage> {
     let mut events = Events::new(alloc);
-    let diff = moved(alloc, id, 5)?;
+    let diff = move_diff(alloc, id, 5)?;
     let server_clock = 1;
     events.push(DataEvent::Patch { diff, server_clock })?;
     Ok(ServerMessage::Data { events })

@@ -68,7 +68,7 @@ pub(crate) fn diff_of(alloc: Global, id: &Text, op: RecordOp) -> Mem<Diff> {
 }
 
 /// The diff that moves the shape of an id to an x.
-pub(crate) fn moved(alloc: Global, id: &Text, x: i64) -> Mem<Diff>
+pub(crate) fn move_diff(alloc: Global, id: &Text, x: i64) -> Mem<Diff>
     ensures { IfOk result (λ diff. diff_has_append diff ≡ false) }
 {
     let mut fields = ObjectDiff::new(alloc);

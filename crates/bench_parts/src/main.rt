@@ -133,7 +133,7 @@ const CALLS: [(&str, Call); 24] = [
 
 impl Call {
     /// Does the call on so many ids, or bytes, and returns what it comes to. The steps are counted for nobody.
-    fn repeated(self, alloc: Global, size: u32, calls: Calls) -> Mem<i64> {
+    fn do_times(self, alloc: Global, size: u32, calls: Calls) -> Mem<i64> {
         self.repeated_in::<Brand>(Blank::new(1), alloc, size, calls)
     }
 
@@ -150,24 +150,24 @@ impl Call {
     {
         let mut steps = Steps::<L>::new(blank);
         match self {
-            Call::OnValue(call) => values::repeated(call, alloc, size, calls.count),
+            Call::OnValue(call) => values::do_on_value(call, alloc, size, calls.count),
             Call::OnShapes(call) => {
-                call.repeated(alloc, &ids_of(alloc, "shape", size)?, calls, &mut steps)
+                call.do_on_shapes(alloc, &ids_of(alloc, "shape", size)?, calls, &mut steps)
             }
-            Call::Push => rooms::pushed(alloc, size, calls, &mut steps),
-            Call::Return => returns::returned(alloc, size, calls.count, &mut steps),
-            Call::Turn => turns::turned(alloc, size, calls, &mut steps),
+            Call::Push => rooms::push_times(alloc, size, calls, &mut steps),
+            Call::Return => returns::return_times(alloc, size, calls.count, &mut steps),
+            Call::Turn => turns::push_by_turns(alloc, size, calls, &mut steps),
             Call::Cut => cutting::cut(alloc, size, calls.count),
-            Call::Compute => signals::computed(alloc, size, calls, &mut steps),
-            Call::Write => transactions::written(alloc, size, calls.count),
-            Call::Hold => transactions::held(alloc, size, calls.count),
+            Call::Compute => signals::compute_times(alloc, size, calls, &mut steps),
+            Call::Write => transactions::write_times(alloc, size, calls.count),
+            Call::Hold => transactions::hold_times(alloc, size, calls.count),
         }
     }
 }
 
 impl OnShapes {
     /// Does the call on the shapes of these ids.
-    fn repeated<L: Ledger>(
+    fn do_on_shapes<L: Ledger>(
         self,
         alloc: Global,
         ids: &[Text],
@@ -175,21 +175,21 @@ impl OnShapes {
         steps: &mut Steps<L>,
     ) -> Mem<i64> {
         match self {
-            OnShapes::Touch => touching::touched(alloc, ids, calls),
-            OnShapes::Copy => touching::copied(alloc, ids, calls),
-            OnShapes::Client(messages) => clients::called(messages, alloc, ids, calls, steps),
+            OnShapes::Touch => touching::touch_times(alloc, ids, calls),
+            OnShapes::Copy => touching::copy_times(alloc, ids, calls),
+            OnShapes::Client(messages) => clients::call_client(messages, alloc, ids, calls, steps),
             OnShapes::ReadData => messages::read(alloc, ids, calls.count),
-            OnShapes::PrintData => messages::printed(alloc, ids, calls.count),
-            OnShapes::Marks => marks::kept(alloc, ids, calls),
+            OnShapes::PrintData => messages::print_times(alloc, ids, calls.count),
+            OnShapes::Marks => marks::keep_times(alloc, ids, calls),
             OnShapes::Store(Work::Put) => boards::put_times(alloc, ids, calls, steps),
-            OnShapes::Raise(way) => raising::raised(way, alloc, ids, calls.count),
-            OnShapes::Store(work) => boards::worked(work, alloc, ids, calls, steps),
+            OnShapes::Raise(way) => raising::raise_times(way, alloc, ids, calls.count),
+            OnShapes::Store(work) => boards::do_work(work, alloc, ids, calls, steps),
         }
     }
 }
 
 /// What the words ask for, where they are a word and three numbers.
-fn asked(words: &[String]) -> Option<(&str, u32, Calls)> {
+fn request_of(words: &[String]) -> Option<(&str, u32, Calls)> {
     let [word, size, count, step] = words else {
         return None;
     };
@@ -200,18 +200,18 @@ fn asked(words: &[String]) -> Option<(&str, u32, Calls)> {
 }
 
 /// Does the call that the words ask for, or each. It returns a line for each that was done.
-fn done<R: Threads + Wait + Sync>(rt: &R, alloc: Global, words: &[String]) -> Mem<String> {
+fn do_calls<R: Threads + Wait + Sync>(rt: &R, alloc: Global, words: &[String]) -> Mem<String> {
     let mut lines = String::new(alloc);
-    if let Some((asked, size, calls)) = asked(words) {
+    if let Some((asked, size, calls)) = request_of(words) {
         for (word, call) in &CALLS {
             if asked == *word || asked == "all" {
-                let comes_to = call.repeated(alloc, size, calls)?;
+                let comes_to = call.do_times(alloc, size, calls)?;
                 add_line(alloc, &mut lines, word, size, calls, comes_to)?;
             }
         }
         for (word, call) in &SHARED {
             if asked == *word || asked == "all" {
-                let comes_to = call.repeated(rt, alloc, size, calls)?;
+                let comes_to = call.do_in_rooms(rt, alloc, size, calls)?;
                 add_line(alloc, &mut lines, word, size, calls, comes_to)?;
             }
         }
@@ -240,7 +240,7 @@ fn main(rt: HostRuntime) -> io::Result<ExitCode> {
     for word in env::args(&rt)?.skip(1) {
         words.push(word)?;
     }
-    let Ok(lines) = done(&rt, alloc, &words) else {
+    let Ok(lines) = do_calls(&rt, alloc, &words) else {
         eprintln!(rt; "bench_parts: out of memory")?;
         return Ok(ExitCode::FAILURE);
     };

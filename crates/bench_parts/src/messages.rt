@@ -19,7 +19,7 @@ pub(crate) fn read(alloc: Global, ids: &[Text], times: u32) -> Mem<i64> {
 }
 
 /// Prints the same message so many times. It returns how many bytes were printed.
-pub(crate) fn printed(alloc: Global, ids: &[Text], times: u32) -> Mem<i64> {
+pub(crate) fn print_times(alloc: Global, ids: &[Text], times: u32) -> Mem<i64> {
     let message = message(alloc, ids)?;
     let mut bytes = 0i64;
     for _ in 0..times {

@@ -22,7 +22,7 @@ pub(crate) enum Raise {
 }
 
 /// Takes a shape of each id up, so many times. It returns how many shapes there were in all.
-pub(crate) fn raised(way: Raise, alloc: Global, ids: &[Text], times: u32) -> Mem<i64> {
+pub(crate) fn raise_times(way: Raise, alloc: Global, ids: &[Text], times: u32) -> Mem<i64> {
     match raised_all(way, alloc, ids, times) {
         Ok(count) => Ok(count),
         Err(_) => Err(OutOfMemory),

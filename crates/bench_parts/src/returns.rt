@@ -11,7 +11,7 @@ use sync_room::{Room, SessionId};
 
 /// Puts so many pages into a room in one push, and at each call lets a session come that has reached the room's clock, gives
 /// it the answer to its connect, and lets it leave. It returns how many were told to keep the document that they have.
-pub(crate) fn returned<L: Ledger>(
+pub(crate) fn return_times<L: Ledger>(
     alloc: Global,
     pages: u32,
     calls: u32,

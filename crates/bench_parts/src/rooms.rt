@@ -28,7 +28,7 @@ const VERSIONS: [(&str, u64); 3] = [("rooms.base", 1), ("rooms.binding", 1), ("r
 
 /// Puts so many pages into a room in one push, and then pushes a patch of one of them at each call. After each push the session
 /// is given what is next for it. It returns the room's clock.
-pub(crate) fn pushed<L: Ledger>(
+pub(crate) fn push_times<L: Ledger>(
     alloc: Global,
     pages: u32,
     calls: Calls,
@@ -75,7 +75,7 @@ fn push_all<L: Ledger>(
     fill(alloc, room, pages, steps)?;
     for call in 0..calls.count {
         if let Some(id) = calls.id(pages, call) {
-            let diff = renamed(alloc, id)?;
+            let diff = rename_diff(alloc, id)?;
             push(alloc, room, i64::from(call), diff, steps)?;
         }
     }
@@ -134,7 +134,7 @@ pub(crate) fn renamed_all(alloc: Global, ids: &[Text]) -> Mem<Diff> {
 }
 
 /// A diff that gives the page of an id another name.
-pub(crate) fn renamed(alloc: Global, id: &Text) -> Mem<Diff> {
+pub(crate) fn rename_diff(alloc: Global, id: &Text) -> Mem<Diff> {
     let name = Val::Text(Text::of(alloc, "name")?);
     diff_of(alloc, id, patch(alloc, "name", name)?)
 }

@@ -4,7 +4,7 @@ ghost use Rattle.room_run.specs.Passes.{room_of};
 ghost use Rattle.room_run.specs.Rooms.{id_of};
 
 use crate::made::id_of as page_of;
-use crate::rooms::{connect_message, new_room, push_message, puts, renamed, renamed_all};
+use crate::rooms::{connect_message, new_room, push_message, puts, rename_diff, renamed_all};
 use crate::touching::Calls;
 use crate::turns::SESSIONS;
 use room_run::{Pass, RunningRoom};
@@ -29,7 +29,7 @@ pub(crate) const SHARED: [(&str, Shared); 2] = [("share", Shared::Share), ("wait
 
 impl Shared {
     /// Does the call, and returns the sum of the rooms' clocks.
-    pub(crate) fn repeated<R: Threads + Wait + Sync>(
+    pub(crate) fn do_in_rooms<R: Threads + Wait + Sync>(
         self,
         rt: &R,
         alloc: Global,
@@ -82,7 +82,7 @@ fn push<R: Wait>(rt: &R, alloc: Global, room: &RunningRoom, session: u32, count:
     let put = push_message(0, puts(alloc, slice::from_ref(&page))?);
     drop(room.handle(rt, &mut pass, &put)?);
     'pushes: for call in 0..count {
-        let patch = push_message(i64::from(call), renamed(alloc, &page)?);
+        let patch = push_message(i64::from(call), rename_diff(alloc, &page)?);
         drop(room.handle(rt, &mut pass, &patch)?);
     }
     Ok(())

@@ -13,7 +13,7 @@ const KEYS: u64 = 10;
 
 /// Sets each atom, and then at each call one of them, and asks for ten keys that hang on it. It returns their sum over all
 /// calls.
-pub(crate) fn computed<L: Ledger>(
+pub(crate) fn compute_times<L: Ledger>(
     alloc: Global,
     atoms: u32,
     calls: Calls,

@@ -59,7 +59,7 @@ impl Calls {
 }
 
 /// Touches each id once, and then one of them at each call. It returns the last clock.
-pub(crate) fn touched(alloc: Global, ids: &[Text], calls: Calls) -> Mem<i64> {
+pub(crate) fn touch_times(alloc: Global, ids: &[Text], calls: Calls) -> Mem<i64> {
     let mut clocked = Clocked::new(alloc, ids.len())?;
     touch_all(alloc, &mut clocked, ids, calls)
 }
@@ -78,7 +78,7 @@ fn touch_all(alloc: Global, clocked: &mut Clocked, ids: &[Text], calls: Calls) -
 }
 
 /// Makes the texts of the same calls, and returns how many bytes they have.
-pub(crate) fn copied(alloc: Global, ids: &[Text], calls: Calls) -> Mem<i64> {
+pub(crate) fn copy_times(alloc: Global, ids: &[Text], calls: Calls) -> Mem<i64> {
     let mut bytes = 0i64;
     for call in 0..calls.count {
         if let Some(id) = calls.id(ids, call) {

@@ -6,7 +6,7 @@ use std::alloc::Global;
 use tl_rules::{Ids, TlKey, TlRules, TlValue};
 
 /// Writes an atom of so many ids so many times in one transaction, and commits it. It returns how often the atom changed.
-pub(crate) fn written(alloc: Global, size: u32, times: u32) -> Mem<i64> {
+pub(crate) fn write_times(alloc: Global, size: u32, times: u32) -> Mem<i64> {
     let mut txn = Txn::new(alloc, TlRules)?;
     write_all(alloc, &mut txn, size, times)
 }
@@ -35,7 +35,7 @@ fn write(alloc: Global, txn: &mut Txn<TlRules>, ids: Ids) -> Mem<()> {
 }
 
 /// Holds so many lists of so many ids. It returns how many there are.
-pub(crate) fn held(alloc: Global, size: u32, times: u32) -> Mem<i64> {
+pub(crate) fn hold_times(alloc: Global, size: u32, times: u32) -> Mem<i64> {
     let mut lists = Vec::new(alloc);
     for call in 0..times {
         lists.push(list(alloc, size, call)?)?;

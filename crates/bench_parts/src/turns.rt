@@ -2,7 +2,7 @@
 ghost use Rattle.sync_room.specs.Sessions.{IsIn};
 
 use crate::made::id_of;
-use crate::rooms::{connect_message, new_room, push_message, puts, renamed};
+use crate::rooms::{connect_message, new_room, push_message, puts, rename_diff};
 use crate::touching::Calls;
 use rooms_val::{Mem, OutOfMemory, Steps, Text};
 use std::alloc::Global;
@@ -26,7 +26,7 @@ struct Visit {
 
 /// Lets so many sessions into rooms, and then each push a patch of a page of its own so many times, by turns. There are as many rooms
 /// as the calls' step says. After each push the session is given all that there is for it. It returns the sum of the rooms' clocks.
-pub(crate) fn turned<L: Ledger>(
+pub(crate) fn push_by_turns<L: Ledger>(
     alloc: Global,
     sessions: u32,
     calls: Calls,
@@ -66,7 +66,7 @@ fn push_all<L: Ledger>(
     }
     for call in 0..count {
         for visit in &visits {
-            let message = push_message(i64::from(call), renamed(alloc, &visit.page)?);
+            let message = push_message(i64::from(call), rename_diff(alloc, &visit.page)?);
             exchange(alloc, rooms, visit, &message, steps)?;
         }
     }

@@ -18,7 +18,7 @@ pub(crate) enum OnValue {
 }
 
 /// Reads a value from a text of about so many bytes, and does the call so many times. It returns what the value weighs.
-pub(crate) fn repeated(call: OnValue, alloc: Global, bytes: u32, times: u32) -> Mem<i64> {
+pub(crate) fn do_on_value(call: OnValue, alloc: Global, bytes: u32, times: u32) -> Mem<i64> {
     let text = text_of(alloc, bytes)?;
     let mut val = value(alloc, text.as_str())?;
     // A compiler may weigh a value once for all rounds, but not two that change places.

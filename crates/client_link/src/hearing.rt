@@ -3,7 +3,7 @@ ghost use Rattle.std.specs.Prelude.{IfOk, IfErr};
 ghost use Rattle.client_link.specs.Hearing.{IsHeard, Refuses};
 ghost use Rattle.link_texts.specs.Hearing.{IfRefused};
 
-use link_texts::{Unheard, taken};
+use link_texts::{Unheard, take_piece};
 use std::alloc::Global;
 use sync_msgs::ServerMessage;
 use wire_msgs::read_server;
@@ -29,7 +29,7 @@ pub fn hear(
     ensures heard { IfOk result (λ said. IsHeard assembler.old bytes.now said assembler.new) }
     ensures refused { IfErr result (IfRefused (Refuses assembler.old bytes.now)) }
 {
-    match taken(alloc, assembler, bytes)? {
+    match take_piece(alloc, assembler, bytes)? {
         None => Ok(None),
         Some(text) => Ok(Some(read_server(alloc, text.as_str().as_bytes())?)),
     }

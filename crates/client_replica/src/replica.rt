@@ -326,7 +326,7 @@ impl<D: DocStore> Replica<D> {
         ensures rest { D.rest self.new.store ≡ D.rest self.old.store }
         ensures ticks { steps.new ≤ steps.old + length changes.now }
     {
-        let shown = changes.replayed(alloc, &self.schema, &self.stash, &self.works, from)?;
+        let shown = changes.with_edits(alloc, &self.schema, &self.stash, &self.works, from)?;
         shown.tell_rising();
         begin(&mut self.store)?;
         match shown.write_back(alloc, &mut self.store, steps) {

@@ -221,7 +221,7 @@ impl Stash {
 
     /// What the edits among the works from a place on make of each record that it holds. The works are walked for an id of
     /// the stash alone, since they name no other.
-    pub(crate) fn replayed(
+    pub(crate) fn with_edits(
         &self,
         alloc: Global,
         schema: &Schema,

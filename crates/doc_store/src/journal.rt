@@ -51,7 +51,7 @@ pub(crate) fn write(
     let before = slots.slot(alloc, id)?;
     journal.push(Entry::Wrote(String::from_str(alloc, id)?, before))?;
     let old = slots.put(key, stored)?;
-    Ok(held(old))
+    Ok(record_in(old))
 }
 
 /// Writes a record, or its absence, where no transaction is open. Where memory is refused the slots are as before.
@@ -68,7 +68,7 @@ pub(crate) fn write_plain(
     ensures full { AreFull slots.old → AreFull slots.new }
 {
     match stored {
-        Some(val) => Ok(held(slots.put(String::from_str(alloc, id)?, Some(val))?)),
+        Some(val) => Ok(record_in(slots.put(String::from_str(alloc, id)?, Some(val))?)),
         None => Ok(take_plain(slots, id)),
     }
 }
@@ -79,7 +79,7 @@ pub(crate) fn take_plain(slots: &mut Slots, id: &str) -> Option<Val>
     ensures rest { present slots.new ≡ without_key (present slots.old) id.now }
     ensures full { AreFull slots.old → AreFull slots.new }
 {
-    held(slots.take(id))
+    record_in(slots.take(id))
 }
 
 /// Forgets where the newest transaction began. It costs the writes since then.
@@ -184,7 +184,7 @@ fn put_back(slots: &mut Slots, id: String, before: Option<Slot>)
 }
 
 // The record in a slot.
-fn held(slot: Option<Slot>) -> Option<Val>
+fn record_in(slot: Option<Slot>) -> Option<Val>
     ensures { maybe_data result ≡ slots_spec.held (option_map maybe_data slot) }
 {
     match slot {

@@ -25,7 +25,7 @@ pub fn apply_object(alloc: Global, map: &Fields, diff: &ObjectDiff) -> Mem<Field
     let _ = map.len();
     let mut result = map.copy(alloc)?;
     'ops: for (key, op) in diff.as_slice() {
-        let val = edited(alloc, result.get(key.as_str()), op)?;
+        let val = edited_val(alloc, result.get(key.as_str()), op)?;
         set(alloc, &mut result, key, val)?;
     }
     let _ = result.len();
@@ -73,7 +73,7 @@ fn set(alloc: Global, fields: &mut Fields, key: &Text, val: Option<Val>) -> Mem<
 
 // What an operation makes of the value at a key, or of none.
 #[cycle(apply)]
-fn edited(alloc: Global, old: Option<&Val>, op: &ValueOp) -> Mem<Option<Val>>
+fn edited_val(alloc: Global, old: Option<&Val>, op: &ValueOp) -> Mem<Option<Val>>
     ensures { IfOk result
         (λ v. maybe_data v ≡ edited (edit_of op.now) (maybe_data (option_copied old.entry))) }
 {
@@ -102,7 +102,7 @@ fn appended_val(alloc: Global, val: &Val, vals: &Vals, offset: u32) -> Mem<Val>
     match val {
         Val::List(items) => {
             if items.len() == offset as usize {
-                Ok(Val::List(followed(alloc, items, vals)?))
+                Ok(Val::List(join_lists(alloc, items, vals)?))
             } else {
                 Ok(Val::List(items.copy(alloc)?))
             }
@@ -128,7 +128,7 @@ fn lengthened_val(alloc: Global, val: &Val, more: &Text, offset: u32) -> Mem<Val
 }
 
 // One list followed by another.
-fn followed(alloc: Global, items: &Vals, more: &Vals) -> Mem<Vals>
+fn join_lists(alloc: Global, items: &Vals, more: &Vals) -> Mem<Vals>
     ensures { IfOk result (λ l. l ≡ items.now ++ more.now) }
 {
     let mut list = items.copy(alloc)?;

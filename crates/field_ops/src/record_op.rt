@@ -2,7 +2,7 @@
 ghost use Rattle.std.specs.Prelude.{◌≡◌, IfOk};
 
 use crate::object_diff::ObjectDiff;
-use crate::parts::{arguments, named, with};
+use crate::parts::{arguments, list_of_name, with};
 use crate::value_op::ValueOp;
 use rooms_val::{Mem, OpFault, Val};
 use std::alloc::Global;
@@ -70,12 +70,15 @@ impl RecordOp {
         ensures { IfOk result (λ v. data_of v ≡ change_data (change_of self.now)) }
     {
         match self {
-            RecordOp::Put(val) => Ok(Val::List(with(named(alloc, "put")?, val.copy(alloc)?)?)),
+            RecordOp::Put(val) => Ok(Val::List(with(
+                list_of_name(alloc, "put")?,
+                val.copy(alloc)?,
+            )?)),
             RecordOp::Patch(diff) => Ok(Val::List(with(
-                named(alloc, "patch")?,
+                list_of_name(alloc, "patch")?,
                 Val::Map(diff.to_fields(alloc)?),
             )?)),
-            RecordOp::Remove => Ok(Val::List(named(alloc, "remove")?)),
+            RecordOp::Remove => Ok(Val::List(list_of_name(alloc, "remove")?)),
         }
     }
 

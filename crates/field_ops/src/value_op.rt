@@ -7,7 +7,7 @@ ghost use Rattle.field_ops.specs.View.{edit_of};
 ghost use Rattle.field_ops.specs.Wire.{append_data, edit_data, edits_data, IsAppendable};
 
 use crate::object_diff::ObjectDiff;
-use crate::parts::{arguments, named, single, with};
+use crate::parts::{arguments, list_of_name, single, with};
 use rooms_val::{Mem, OpFault, Text, Val, Vals};
 use std::alloc::Global;
 
@@ -62,9 +62,12 @@ impl ValueOp {
         ensures { IfOk result (λ v. data_of v ≡ edit_data (edit_of self.now)) }
     {
         match self {
-            ValueOp::Put(val) => Ok(Val::List(with(named(alloc, "put")?, val.copy(alloc)?)?)),
+            ValueOp::Put(val) => Ok(Val::List(with(
+                list_of_name(alloc, "put")?,
+                val.copy(alloc)?,
+            )?)),
             ValueOp::Patch(diff) => Ok(Val::List(with(
-                named(alloc, "patch")?,
+                list_of_name(alloc, "patch")?,
                 Val::Map(diff.to_fields(alloc)?),
             )?)),
             ValueOp::Append(vals, offset) => append_val(
@@ -77,7 +80,7 @@ impl ValueOp {
                 Val::Text(text.copy(alloc)?),
                 *offset,
             ),
-            ValueOp::Delete => Ok(Val::List(named(alloc, "delete")?)),
+            ValueOp::Delete => Ok(Val::List(list_of_name(alloc, "delete")?)),
         }
     }
 
@@ -188,6 +191,6 @@ fn append_of(alloc: Global, what: &Val, offset: u32) -> Result<ValueOp, OpFault>
 fn append_val(alloc: Global, what: Val, offset: u32) -> Mem<Val>
     ensures { IfOk result (λ v. data_of v ≡ append_data (data_of what) offset) }
 {
-    let parts = with(named(alloc, "append")?, what)?;
+    let parts = with(list_of_name(alloc, "append")?, what)?;
     Ok(Val::List(with(parts, Val::Int(i64::from(offset)))?))
 }

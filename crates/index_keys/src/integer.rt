@@ -37,7 +37,7 @@ pub fn fraction_part(key: &[u8]) -> &[u8]
 ///
 /// # Errors
 /// Out of memory alone.
-pub fn filled(alloc: Global, head: u8, digit: u8) -> Result<Vec<u8>, AllocError>
+pub fn filled_integer(alloc: Global, head: u8, digit: u8) -> Result<Vec<u8>, AllocError>
     ensures { IfOk result (λ integer. integer.items ≡ filled head digit) }
 {
     let mut integer = vec![in alloc; digit; width(head) + 1]?;
@@ -94,7 +94,7 @@ pub fn increment(alloc: Global, integer: &[u8]) -> Result<Option<Vec<u8>>, Alloc
     if head >= GREATEST {
         return Ok(None);
     }
-    Ok(Some(filled(alloc, head + 1, 0)?))
+    Ok(Some(filled_integer(alloc, head + 1, 0)?))
 }
 
 /// The integer part before this one, if there is one. It costs the integer part, some 27 digits.
@@ -114,7 +114,7 @@ pub fn decrement(alloc: Global, integer: &[u8]) -> Result<Option<Vec<u8>>, Alloc
     if head <= UPPER_A {
         return Ok(None);
     }
-    Ok(Some(filled(alloc, head - 1, GREATEST)?))
+    Ok(Some(filled_integer(alloc, head - 1, GREATEST)?))
 }
 
 /// The smallest integer part, `A` and 26 `0`.
@@ -124,5 +124,5 @@ pub fn decrement(alloc: Global, integer: &[u8]) -> Result<Option<Vec<u8>>, Alloc
 pub fn smallest(alloc: Global) -> Result<Vec<u8>, AllocError>
     ensures { IfOk result (λ integer. integer.items ≡ smallest) }
 {
-    filled(alloc, UPPER_A, 0)
+    filled_integer(alloc, UPPER_A, 0)
 }

@@ -9,7 +9,7 @@ ghost use Rattle.index_keys.specs.Order.{IsBetween};
 use crate::digit::{LOWER_A, text_of, values_of};
 use crate::fault::BetweenFault;
 use crate::fraction::{push_midpoint_open, push_midpoint_within};
-use crate::integer::{decrement, filled, fraction_part, increment, integer_part, smallest};
+use crate::integer::{decrement, filled_integer, fraction_part, increment, integer_part, smallest};
 use crate::key::check;
 use std::alloc::{AllocError, Global};
 
@@ -117,7 +117,7 @@ fn values_between(
         (option_map values_of (option_copied above.entry))) }
 {
     match (below, above) {
-        (None, None) => Ok(Some(filled(alloc, LOWER_A, 0)?)),
+        (None, None) => Ok(Some(filled_integer(alloc, LOWER_A, 0)?)),
         (None, Some(above)) => before(alloc, &values_of(alloc, above)?),
         (Some(below), None) => Ok(Some(after(alloc, &values_of(alloc, below)?)?)),
         (Some(below), Some(above)) => {

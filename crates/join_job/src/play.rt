@@ -14,8 +14,8 @@ ghost use Rattle.join_job.specs.declared.ending.JoinEnd.TheVariants as join;
 ghost use Rattle.join_job.specs.declared.ending.Stop.TheVariants as stop;
 
 use crate::ending::{End, JoinEnd, Stop, join_end};
-use crate::script::{Reply, Script, refused};
-use crate::texts::unended;
+use crate::script::{Reply, Script, fault_reply};
+use crate::texts::no_end_text;
 use recording_lines::line_reader::{LineReader, Next};
 use room_link::link::Link;
 use room_link::sink::Sink;
@@ -161,11 +161,11 @@ fn next_reply<K: Link, S: Source, L: Ledger>(
         Next::Line => script.take_line(alloc, at, reader.line(), link, steps),
         Next::TooLong => {
             let text = Text::of(alloc, "LineTooLong")?;
-            Ok(refused(alloc, End::Refused, at, text)?)
+            Ok(fault_reply(alloc, End::Refused, at, text)?)
         }
         Next::End { whole } => {
-            let text = unended(alloc, whole)?;
-            Ok(refused(alloc, End::Refused, at, text)?)
+            let text = no_end_text(alloc, whole)?;
+            Ok(fault_reply(alloc, End::Refused, at, text)?)
         }
     }
 }

@@ -113,7 +113,7 @@ impl Script {
             }
             Err(fault) => {
                 let text = line_fault_text(alloc, fault)?;
-                Ok(refused(alloc, End::Refused, at, text)?)
+                Ok(fault_reply(alloc, End::Refused, at, text)?)
             }
         }
     }
@@ -140,7 +140,7 @@ fn take_step<K: Link, L: Ledger>(
     let found = read_step(alloc, line)?;
     match found {
         Ok(step) => do_step(joiner, alloc, at, step, link, steps),
-        Err(text) => Ok(refused(alloc, End::Refused, at, text)?),
+        Err(text) => Ok(fault_reply(alloc, End::Refused, at, text)?),
     }
 }
 
@@ -197,7 +197,7 @@ fn do_act<K: Link, L: Ledger>(
     let answer = joiner.act(alloc, act, steps)?;
     match answer {
         Ok(lines) => follow(joiner, alloc, lines, link, steps),
-        Err(text) => Ok(refused(alloc, End::Refused, at, text)?),
+        Err(text) => Ok(fault_reply(alloc, End::Refused, at, text)?),
     }
 }
 
@@ -221,12 +221,12 @@ fn deliver<K: Link, L: Ledger>(
     let is_lost = joiner.has_lost();
     if is_lost {
         let text = Text::of(alloc, "NoSuchSession")?;
-        return Ok(refused(alloc, End::Refused, at, text)?);
+        return Ok(fault_reply(alloc, End::Refused, at, text)?);
     }
     let delivery = joiner.deliver(alloc, link, steps)?;
     match delivery {
         Ok(lines) => follow(joiner, alloc, lines, link, steps),
-        Err(text) => Ok(refused(alloc, End::Server, at, text)?),
+        Err(text) => Ok(fault_reply(alloc, End::Server, at, text)?),
     }
 }
 
@@ -274,7 +274,7 @@ fn nothing(alloc: Global) -> Reply
 }
 
 /// The script ends at a line, for a cause of this text.
-pub(crate) fn refused(alloc: Global, by: End, at: u64, text: Text) -> Mem<Reply>
+pub(crate) fn fault_reply(alloc: Global, by: End, at: u64, text: Text) -> Mem<Reply>
     ensures text { IfOk result (λ reply. reply.text.items ≡ fault_line at text) }
     ensures end { IfOk result (λ reply. reply.end ≡ Some by) }
 {

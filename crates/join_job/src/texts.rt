@@ -26,7 +26,7 @@ pub(crate) fn fault_line(alloc: Global, at: u64, fault: Text) -> Mem<Vec<u8>>
 }
 
 /// Why a script without an `end` line is refused.
-pub(crate) fn unended(alloc: Global, whole: bool) -> Mem<Text>
+pub(crate) fn no_end_text(alloc: Global, whole: bool) -> Mem<Text>
     ensures { IfOk result (λ text. text ≡ unended_text whole) }
 {
     Text::of(alloc, if whole { "Unended" } else { "TooMuch" })

@@ -31,7 +31,7 @@ pub fn hear(
     ensures heard { IfOk result (λ said. IsHeard assembler.old bytes.now said assembler.new) }
     ensures refused { IfErr result (IfRefused (Refuses assembler.old bytes.now)) }
 {
-    match taken(alloc, assembler, bytes)? {
+    match take_piece(alloc, assembler, bytes)? {
         None => Ok(None),
         Some(text) => Ok(Some(read_client(alloc, text.as_str().as_bytes())?)),
     }
@@ -46,7 +46,7 @@ pub fn hear(
 /// was refused. Of the assembler nothing is said then.
 ///
 /// Costs the text, and the one that it completes.
-pub fn taken(
+pub fn take_piece(
     alloc: Global,
     assembler: &mut Assembler,
     bytes: &[u8],

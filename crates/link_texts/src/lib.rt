@@ -13,6 +13,6 @@ mod join;
 mod sending;
 
 pub use fault::{Unheard, WireFault};
-pub use hearing::{LONGEST_MESSAGE, hear, taken};
+pub use hearing::{LONGEST_MESSAGE, hear, take_piece};
 pub use join::Join;
 pub use sending::Sent;

@@ -24,11 +24,11 @@ pub(crate) fn page(alloc: Global) -> Mem<Fields>
 pub(crate) fn shape_id(alloc: Global, number: u32) -> Mem<Text>
     ensures { IfOk result (λ id. id ≡ shape_id number) }
 {
-    numbered(alloc, "shape:s", number)
+    numbered_text(alloc, "shape:s", number)
 }
 
 // A text with a number behind it.
-fn numbered(alloc: Global, front: &str, number: u32) -> Mem<Text>
+fn numbered_text(alloc: Global, front: &str, number: u32) -> Mem<Text>
     ensures { IfOk result (λ made. made ≡ front.now ++ decimal number) }
 {
     let mut digits = Buffer::new();
@@ -105,7 +105,11 @@ pub(crate) fn presence(alloc: Global, client: u32, x: u32) -> Mem<Fields>
     let fields = fields.with(alloc, "meta", Val::Map(Fields::new(alloc)))?;
     let fields = fields.with(alloc, "selectedShapeIds", Val::List(Vals::new(alloc)))?;
     let fields = with_text(alloc, fields, "typeName", "instance_presence")?;
-    fields.with(alloc, "userName", Val::Text(numbered(alloc, "c", client)?))
+    fields.with(
+        alloc,
+        "userName",
+        Val::Text(numbered_text(alloc, "c", client)?),
+    )
 }
 
 // The map with a further text.

@@ -172,7 +172,7 @@ fn has_slash(bytes: &[u8]) -> bool
 }
 
 // The first id that another sequence had before.
-pub(crate) fn doubled(list: &[Sequence]) -> Option<&Text>
+pub(crate) fn doubled_id(list: &[Sequence]) -> Option<&Text>
     ensures { option_map (λ id. id.now) result ≡ doubled list.now }
 {
     for (place, sequence) in list.iter().enumerate() {

@@ -11,7 +11,7 @@ ghost use Rattle.migrate_steps.specs.Records.{raised_along, raised_map, lowered_
 ghost use Rattle.migrate_seq.specs.Plans.{migration_at, migrations_at, is_acyclic, can_all_scale, plan_answer, IsPlan, newest_versions, are_both_ways, are_of_records};
 ghost use Rattle.migrate_seq.specs.Shown.{places_in, goes_both_ways, is_of_records};
 
-use crate::build::{all_places, bad_id, by_id, doubled, gap, ids_at, unknown};
+use crate::build::{all_places, bad_id, by_id, doubled_id, gap, ids_at, unknown};
 use crate::fault::{Ids, PlanFault, SeqFault};
 use crate::order::{at, take_in_turn};
 use crate::place::Place;
@@ -52,7 +52,7 @@ impl Sequences {
             let id = id.copy(alloc)?;
             return Err(SeqFault::BadId(id));
         }
-        if let Some(id) = doubled(&list) {
+        if let Some(id) = doubled_id(&list) {
             let id = id.copy(alloc)?;
             return Err(SeqFault::Doubled(id));
         }

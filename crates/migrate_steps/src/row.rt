@@ -114,13 +114,13 @@ fn replace(
 {
     let _ = fields.len();
     if let Some(val) = fields.take(key.as_str())? {
-        let after = replaced(alloc, val, pairs, way)?;
+        let after = replaced_val(alloc, val, pairs, way)?;
         fields.put(key.copy(alloc)?, after)?;
     }
     Ok(())
 }
 
-fn replaced(alloc: Global, val: Val, pairs: &[(Text, Text)], way: Way) -> Mem<Val>
+fn replaced_val(alloc: Global, val: Val, pairs: &[(Text, Text)], way: Way) -> Mem<Val>
     ensures { IfOk result (λ v. data_of v ≡ replaced (toward way pairs.now) (data_of val)) }
 {
     match val {
@@ -154,12 +154,12 @@ fn scale_up(alloc: Global, fields: &mut Fields, key: &Text, factor: u32) -> Mem<
 {
     let _ = fields.len();
     if let Some(val) = fields.take(key.as_str())? {
-        fields.put(key.copy(alloc)?, scaled(val, factor))?;
+        fields.put(key.copy(alloc)?, scaled_val(val, factor))?;
     }
     Ok(())
 }
 
-fn scaled(val: Val, factor: u32) -> Val
+fn scaled_val(val: Val, factor: u32) -> Val
     ensures { data_of result ≡ scaled factor (data_of val) }
 {
     match val {
@@ -174,12 +174,12 @@ fn scale_down(alloc: Global, fields: &mut Fields, key: &Text, factor: u32) -> Me
 {
     let _ = fields.len();
     if let Some(val) = fields.take(key.as_str())? {
-        fields.put(key.copy(alloc)?, divided(val, factor))?;
+        fields.put(key.copy(alloc)?, divided_val(val, factor))?;
     }
     Ok(())
 }
 
-fn divided(val: Val, factor: u32) -> Val
+fn divided_val(val: Val, factor: u32) -> Val
     requires { 2 ≤ factor }
     ensures { data_of result ≡ divided factor (data_of val) }
 {

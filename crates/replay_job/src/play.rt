@@ -250,12 +250,12 @@ pub fn next_reply<S: Source, L: Ledger>(
     match reader.next_line(source)? {
         Next::Line => Ok(replay.take_line(alloc, reader.line(), steps)?),
         Next::TooLong => Ok(Reply::Refused(Text::of(alloc, "LineTooLong")?)),
-        Next::End { whole } => Ok(Reply::Refused(unended(alloc, whole)?)),
+        Next::End { whole } => Ok(Reply::Refused(no_end_text(alloc, whole)?)),
     }
 }
 
 /// Why a recording without an `end` line is refused.
-pub fn unended(alloc: Global, whole: bool) -> Mem<Text>
+pub fn no_end_text(alloc: Global, whole: bool) -> Mem<Text>
     ensures { IfOk result (λ text. text ≡ unended_text whole) }
 {
     Text::of(alloc, if whole { "Unended" } else { "TooMuch" })

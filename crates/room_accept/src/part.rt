@@ -20,7 +20,7 @@ use crate::fit::is_put_admitted;
 use crate::plan::SessionPlan;
 use crate::push::Member;
 use crate::size::DocumentSize;
-use crate::tried::tried;
+use crate::tried::op_to_try;
 use doc_store::{DocStore, MapDoc};
 use field_ops::{Diff, RecordOp};
 use rooms_val::{Mem, Text, Val};
@@ -116,9 +116,9 @@ fn accept_one(
     ensures sound { IfOk result (λ _. AreRising records.now.0) }
 {
     let before = records.get(id.as_str());
-    let op = tried(alloc, schema, plan, op, before)?;
+    let op = op_to_try(alloc, schema, plan, op, before)?;
     match left_by(alloc, schema, part.size, id.as_str(), before, &op)? {
-        Some(left) => added(alloc, part, id, op, left),
+        Some(left) => with_later_op(alloc, part, id, op, left),
         None => Ok(part),
     }
 }
@@ -154,7 +154,7 @@ fn left_by(
 }
 
 // What was accepted with one operation more, on a later id, and what it left.
-fn added(
+fn with_later_op(
     alloc: Global,
     part: Part,
     id: &Text,

@@ -112,7 +112,7 @@ pub(crate) fn with_presence(
         return Ok(part);
     };
     match own_left(alloc, schema, records, id.as_str(), &op)? {
-        Some(left) => inserted(alloc, part, id, op, left),
+        Some(left) => with_own_op(alloc, part, id, op, left),
         None => Ok(part),
     }
 }
@@ -138,7 +138,7 @@ fn own_left(
 
 // What was accepted with one operation more, which changes nothing of the document, and what it
 // left.
-fn inserted(alloc: Global, part: Part, id: Text, op: RecordOp, left: Option<Val>) -> Mem<Part>
+fn with_own_op(alloc: Global, part: Part, id: Text, op: RecordOp, left: Option<Val>) -> Mem<Part>
     requires { AreRising part.after.items }
     ensures diff { IfOk result (λ all. all.diff ≡ with_key part.diff id (change_of op)) }
     ensures after { IfOk result (λ all. all.after.items ≡ with_key part.after.items id left) }

@@ -31,8 +31,8 @@ impl DocumentSize {
         DocumentSize {
             count: self
                 .count
-                .saturating_sub(held(before))
-                .saturating_add(held(after)),
+                .saturating_sub(count_of(before))
+                .saturating_add(count_of(after)),
             weight: self
                 .weight
                 .saturating_sub(weight(before))
@@ -49,7 +49,7 @@ impl DocumentSize {
 }
 
 // How many records there are where one may be.
-fn held(found: Option<&Val>) -> u64
+fn count_of(found: Option<&Val>) -> u64
     ensures { result ≡ held (maybe_data (option_copied found.entry)) }
 {
     match found {

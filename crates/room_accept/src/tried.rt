@@ -17,7 +17,7 @@ use std::alloc::Global;
 
 // The operation that is tried for one of a session, on the record, or the lack of one, that it is
 // done to.
-pub(crate) fn tried(
+pub(crate) fn op_to_try(
     alloc: Global,
     schema: &Schema,
     plan: &SessionPlan,
@@ -31,11 +31,11 @@ pub(crate) fn tried(
     if plan.is_empty() {
         return op.copy(alloc);
     }
-    raised(alloc, schema, plan, op, before)
+    raised_op(alloc, schema, plan, op, before)
 }
 
 // An operation at a session's schema as it is at the room's.
-fn raised(
+fn raised_op(
     alloc: Global,
     schema: &Schema,
     plan: &SessionPlan,

@@ -58,7 +58,7 @@ impl<L: Link + Drop> SteadyAccept<L> {
     }
 
     /// The links that came back, the oldest first, where each is kept.
-    pub fn returned(&self) -> Option<&[L]>
+    pub fn returned_links(&self) -> Option<&[L]>
         ensures { option_map (λ links. links.now) result ≡ returned_of (worker_of self.now) }
     {
         if self.is_whole {

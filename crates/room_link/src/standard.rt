@@ -27,7 +27,7 @@ pub struct StandardOutput<W> {
 
 /// Counts a fault and returns it. A count at its end stands still. The call then returns
 /// `past_end`, since no fault is returned that isn't counted.
-fn counted<T: Drop>(faults: &mut u64, past_end: T) -> Result<T, Failed>
+fn count_fault<T: Drop>(faults: &mut u64, past_end: T) -> Result<T, Failed>
     ensures err { OnErr result (faults.new ≡ faults.old + 1) }
     ensures ok { IfOk result (λ value. (value ≡ past_end) × (faults.new ≡ faults.old)) }
     ensures only_at_end { IsOk result ↔ (faults.old ≡ u64.MAX) }
@@ -70,7 +70,7 @@ impl<R: Read> Source for StandardInput<R> {
     {
         match self.reader.read(buf) {
             Ok(n) => Ok(n),
-            Err(_) => counted(&mut self.faults, 0),
+            Err(_) => count_fault(&mut self.faults, 0),
         }
     }
 }
@@ -108,7 +108,7 @@ impl<W: Write> Sink for StandardOutput<W> {
         }
         match self.writer.write(bytes) {
             Ok(n) if n > 0 => Ok(n),
-            _ => counted(&mut self.faults, bytes.len()),
+            _ => count_fault(&mut self.faults, bytes.len()),
         }
     }
 }

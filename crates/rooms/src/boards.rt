@@ -203,7 +203,7 @@ const TOLD: &str = r#"{"client":0,"told":405,"watch":0}"#;
 
 const FOUND: &str = r#"{"client":0,"ids":["shape:d"],"query":true}"#;
 
-fn ended(alloc: Global) -> Result<String, Fail> {
+fn output_of_end(alloc: Global) -> Result<String, Fail> {
     let kept = records(alloc, Written::Kept)?;
     Ok(format!(in alloc; "{{\"clock\":2,\"doc\":{{{kept}}},\"end\":true,\"presence\":{{}}}}\n")?)
 }
@@ -215,7 +215,7 @@ fn replays_a_board(rt: HostRuntime) -> Result<(), Fail> {
     let recording = whole(alloc)?;
     let mut written = lines(alloc, TOLD)?;
     written.push_str(lines(alloc, FOUND)?.as_str())?;
-    written.push_str(ended(alloc)?.as_str())?;
+    written.push_str(output_of_end(alloc)?.as_str())?;
     for most in [1usize, 65_536] {
         replays(
             &rt,
@@ -362,7 +362,7 @@ fn replays_along<R: Abort + Threads + Wait + Sync>(
 fn adds(alloc: Global, name: &str) -> Result<String, Fail> {
     match name {
         "QUERY" => lines(alloc, FOUND),
-        "END" => ended(alloc),
+        "END" => output_of_end(alloc),
         _ => Ok(String::new(alloc)),
     }
 }

@@ -22,7 +22,7 @@ ghost use Rattle.rooms.specs.Jobs.{job_named};
 ghost use Rattle.rooms.specs.Runs.{IsStatus};
 ghost use Rattle.rooms.specs.Words.{text_asked};
 
-use crate::words::{HELP, VERSION, asked, tell, words_of};
+use crate::words::{HELP, VERSION, help_or_version, tell, words_of};
 use std::io;
 use std::io::Write;
 use std::marker::Brand;
@@ -33,7 +33,7 @@ use std::thread::Threads;
 
 fn main(rt: HostRuntime) -> io::Result<ExitCode> {
     let status = match words_of(&rt) {
-        Ok(words) => answered(&rt, &rt, words.as_slice(), &mut io::writer(&rt))?,
+        Ok(words) => answer_words(&rt, &rt, words.as_slice(), &mut io::writer(&rt))?,
         Err(error) => unread(error)?,
     };
     tell(status, &mut rt.stderr())?;
@@ -52,7 +52,7 @@ fn unread(error: io::Error) -> io::Result<u8>
 }
 
 /// Does what the words ask for, and returns the status. The help and the version go to `output`.
-fn answered<R: Threads + Wait + Sync, W: Write>(
+fn answer_words<R: Threads + Wait + Sync, W: Write>(
     host: &HostRuntime,
     rt: &R,
     words: &[String],
@@ -71,9 +71,9 @@ fn answered<R: Threads + Wait + Sync, W: Write>(
         ((status ≡ 2) ↔ (job_named (map string_bytes words.now) ≡ None)) (λ _. status ≡ 0)) }
     ensures known { IfOk result IsStatus }
 {
-    if let Some(text) = asked(words) {
+    if let Some(text) = help_or_version(words) {
         output.write_all(text.as_bytes())?;
         return Ok(0);
     }
-    Ok(serving::started::<R, Brand>(host, rt, words, Blank::new(1)))
+    Ok(serving::start_run::<R, Brand>(host, rt, words, Blank::new(1)))
 }

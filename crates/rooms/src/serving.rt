@@ -27,7 +27,7 @@ use tungstenite::RandomKeys;
 const CANNOT_LISTEN: u8 = 7;
 
 /// Does what the words ask for: a server listens first, and a client has a worker that connects.
-pub(crate) fn started<R: Threads + Wait + Sync, L: Ledger>(
+pub(crate) fn start_run<R: Threads + Wait + Sync, L: Ledger>(
     host: &HostRuntime,
     rt: &R,
     words: &[String],

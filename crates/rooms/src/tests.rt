@@ -542,7 +542,7 @@ fn shown_with(alloc: Global, clock: u64, document: &str, owed: u64) -> Result<St
 }
 
 // What many moves write: the counts, and the room at the end, whose clock is one more than the moves.
-fn moved(alloc: Global, moves: u32) -> Result<String, Fail> {
+fn output_of_moves(alloc: Global, moves: u32) -> Result<String, Fail> {
     let mut text = lines(alloc, COUNTS)?;
     let document = hundred(alloc, moves, 0)?;
     let clock = u64::from(moves) + 1;
@@ -552,7 +552,7 @@ fn moved(alloc: Global, moves: u32) -> Result<String, Fail> {
 
 // What many pending moves write: the counts, the client with all of them pending and with none, and the room at the end,
 // whose clock is raised by the other client too. That moves the first shape last.
-fn answered(alloc: Global, rounds: u32) -> Result<String, Fail> {
+fn output_of_pending(alloc: Global, rounds: u32) -> Result<String, Fail> {
     let mut text = lines(alloc, COUNTS)?;
     let before = hundred(alloc, rounds, rounds)?;
     let after = hundred(alloc, 7, rounds)?;
@@ -569,7 +569,7 @@ fn answered(alloc: Global, rounds: u32) -> Result<String, Fail> {
 fn replays_twenty_thousand_moves(rt: HostRuntime) -> Result<(), Fail> {
     let alloc = rt.alloc();
     let recording = many_moves(alloc, 20_000)?;
-    let written = moved(alloc, 20_000)?;
+    let written = output_of_moves(alloc, 20_000)?;
     replays(
         &rt,
         alloc,
@@ -586,7 +586,7 @@ fn replays_twenty_thousand_moves(rt: HostRuntime) -> Result<(), Fail> {
 fn replays_answers_to_four_thousand_pending_moves(rt: HostRuntime) -> Result<(), Fail> {
     let alloc = rt.alloc();
     let recording = many_pending(alloc, 40)?;
-    let written = answered(alloc, 40)?;
+    let written = output_of_pending(alloc, 40)?;
     replays(
         &rt,
         alloc,
@@ -730,7 +730,7 @@ fn takes_no_other_words(rt: HostRuntime) -> Result<(), Fail> {
 }
 
 // What is written of a recording that the words make.
-fn made<R: Abort + Threads + Wait + Sync>(
+fn output_of<R: Abort + Threads + Wait + Sync>(
     rt: &R,
     alloc: Global,
     words: &str,
@@ -751,10 +751,10 @@ fn last_first_field(text: &str) -> &str {
 #[test]
 fn makes_what_it_sums_up(rt: HostRuntime) -> Result<(), Fail> {
     let alloc = rt.alloc();
-    let sum = made(&rt, alloc, "make 7 2000")?;
+    let sum = output_of(&rt, alloc, "make 7 2000")?;
     assert_eq!(rt; sum.as_str().lines().count(), 1);
     assert!(rt; sum.as_str().contains(",\"draws\":2000,\"records\":"));
-    let recording = made(&rt, alloc, "make 7 2000 --print")?;
+    let recording = output_of(&rt, alloc, "make 7 2000 --print")?;
     assert!(rt;
         recording
             .as_str()
@@ -776,7 +776,7 @@ fn makes_what_it_sums_up(rt: HostRuntime) -> Result<(), Fail> {
 fn makes_by_the_least_and_the_greatest_seed(rt: HostRuntime) -> Result<(), Fail> {
     let alloc = rt.alloc();
     for words in ["make 0 1", "make 18446744073709551615 50"] {
-        assert_eq!(rt; made(&rt, alloc, words)?.as_str().lines().count(), 1);
+        assert_eq!(rt; output_of(&rt, alloc, words)?.as_str().lines().count(), 1);
     }
     Ok(())
 }

@@ -45,7 +45,7 @@ pub(crate) fn words_of(rt: &HostRuntime) -> io::Result<Vec<String>> {
 }
 
 /// The help or the version, where the one word asks for it.
-pub(crate) fn asked(words: &[String]) -> Option<&'static str>
+pub(crate) fn help_or_version(words: &[String]) -> Option<&'static str>
     ensures { option_map (λ text. text.now) result
         ≡ text_asked HELP.now VERSION.now (map string_bytes words.now) }
 {

@@ -122,7 +122,7 @@ impl Fields {
         };
         match Arc::try_unwrap(entries) {
             Ok(entries) => Ok(entries),
-            Err(shared) => copied(alloc, &shared, 0),
+            Err(shared) => entry_copies(alloc, &shared, 0),
         }
     }
 
@@ -167,7 +167,7 @@ impl Fields {
         match Arc::get_mut(entries) {
             Some(entries) => put_in(entries, key, val),
             None => {
-                let mut more = copied(self.alloc, entries, 1)?;
+                let mut more = entry_copies(self.alloc, entries, 1)?;
                 let old = put_in(&mut more, key, val)?;
                 *entries = Arc::new(self.alloc, more)?;
                 Ok(old)
@@ -200,7 +200,7 @@ impl Fields {
         match Arc::get_mut(entries) {
             Some(entries) => Ok(take_from(entries, key)),
             None => {
-                let mut rest = copied(self.alloc, entries, 0)?;
+                let mut rest = entry_copies(self.alloc, entries, 0)?;
                 let old = take_from(&mut rest, key);
                 *entries = Arc::new(self.alloc, rest)?;
                 Ok(old)
@@ -300,7 +300,7 @@ fn one(alloc: Global, key: Text, val: Val) -> Mem<Vec<(Text, Val)>>
 }
 
 // Copies of some keys with their values, with room for so many more.
-fn copied(alloc: Global, entries: &[(Text, Val)], more: usize) -> Mem<Vec<(Text, Val)>>
+fn entry_copies(alloc: Global, entries: &[(Text, Val)], more: usize) -> Mem<Vec<(Text, Val)>>
     ensures { IfOk result (λ v. pairs_view v.items ≡ pairs_view entries.now) }
 {
     let mut copies = Vec::with_capacity(alloc, entries.len().saturating_add(more))?;

@@ -113,7 +113,7 @@ impl Vals {
         };
         match Arc::try_unwrap(items) {
             Ok(items) => Ok(items),
-            Err(shared) => copied(alloc, &shared, 0),
+            Err(shared) => item_copies(alloc, &shared, 0),
         }
     }
 
@@ -132,7 +132,7 @@ impl Vals {
         match Arc::get_mut(items) {
             Some(items) => add(items, val),
             None => {
-                let mut more = copied(self.alloc, items, 1)?;
+                let mut more = item_copies(self.alloc, items, 1)?;
                 add(&mut more, val)?;
                 *items = Arc::new(self.alloc, more)?;
                 Ok(())
@@ -222,7 +222,7 @@ fn one(alloc: Global, val: Val) -> Mem<Vec<Val>>
 }
 
 // Copies of some values, with room for so many more.
-fn copied(alloc: Global, items: &[Val], more: usize) -> Mem<Vec<Val>>
+fn item_copies(alloc: Global, items: &[Val], more: usize) -> Mem<Vec<Val>>
     ensures { IfOk result (λ v. items_view v.items ≡ items_view items.now) }
 {
     let mut copies = Vec::with_capacity(alloc, items.len().saturating_add(more))?;

@@ -5,7 +5,7 @@ ghost use Rattle.side_effects.specs.Completed.{completed, indexed, not_whole, re
 ghost use Rattle.side_effects.specs.declared.fault.EditFault.TheVariants as edit_fault;
 
 use crate::fault::EditFault;
-use crate::placing::{placed, with_placed};
+use crate::placing::{placed_part, with_placed};
 use crate::removing::with_removes;
 use crate::rules::{Rule, check_each};
 use crate::whole::check_pages;
@@ -53,7 +53,7 @@ pub fn complete<D: DocStore>(
     if wanted.len() > MOST_OPERATIONS {
         return Err(EditFault::TooMany);
     }
-    let diff = indexed(alloc, schema, store, wanted)?;
+    let diff = with_indices(alloc, schema, store, wanted)?;
     let diff = with_removes(alloc, store, diff)?;
     check_whole(alloc, schema, store, &diff, wanted)?;
     if diff.len() > MOST_OPERATIONS {
@@ -63,7 +63,7 @@ pub fn complete<D: DocStore>(
 }
 
 // The wanted diff with an index for each new shape that has none.
-fn indexed<D: DocStore>(
+fn with_indices<D: DocStore>(
     alloc: Global,
     schema: &Schema,
     store: &D,
@@ -74,7 +74,7 @@ fn indexed<D: DocStore>(
 {
     check_each(alloc, Rule::Scope, schema, store, wanted, wanted)?;
     check_each(alloc, Rule::There, schema, store, wanted, wanted)?;
-    let diff = placed(alloc, store, wanted)?;
+    let diff = placed_part(alloc, store, wanted)?;
     check_each(alloc, Rule::Admitted, schema, store, &diff, &diff)?;
     with_placed(alloc, schema, store, wanted, diff)
 }

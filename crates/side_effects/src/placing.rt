@@ -37,7 +37,7 @@ fn is_unplaced<D: DocStore>(store: &D, id: &str, op: &RecordOp) -> bool
 }
 
 /// The operations of a diff but the puts of such shapes. It copies them.
-pub(crate) fn placed<D: DocStore>(alloc: Global, store: &D, wanted: &Diff) -> Mem<Diff>
+pub(crate) fn placed_part<D: DocStore>(alloc: Global, store: &D, wanted: &Diff) -> Mem<Diff>
     ensures { IfOk result (λ d. d ≡ placed (D.records store.now) wanted.now) }
 {
     let mut diff = Diff::new(alloc);

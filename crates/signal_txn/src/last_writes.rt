@@ -44,7 +44,7 @@ impl<K: Drop, V: Drop> LastWrites<K, V> {
     }
 
     // The epoch of the last write that fell out, 0 where none did.
-    pub(crate) fn dropped(&self) -> u64
+    pub(crate) fn dropped_epoch(&self) -> u64
         ensures { result ≡ self.now.dropped }
     {
         self.dropped

@@ -336,7 +336,7 @@ impl<R: Rules + Drop> Txn<R> {
             → IfOk result (AreAllSince history epoch) }
     {
         let now = self.graph.epoch();
-        if epoch < self.ring.dropped() || now < epoch || now == u64::MAX {
+        if epoch < self.ring.dropped_epoch() || now < epoch || now == u64::MAX {
             return Ok(Since::Reset);
         }
         Ok(Since::Diffs(copies_after(alloc, self.graph.rules(), &self.ring, epoch)?))

@@ -25,7 +25,7 @@ use fault_texts::{
 use rec_format::read::LONGEST_LINE;
 use rec_format::read_header;
 use recording_lines::line_reader::LineReader;
-use replay_job::play::{End, Stop, go_on, status, unended};
+use replay_job::play::{End, Stop, go_on, no_end_text, status};
 use replay_job::replay::Replay;
 use replay_job::texts::fault_line;
 use room_link::sink::Sink;
@@ -146,7 +146,7 @@ fn begin<S: Source, L: Ledger>(
         }),
         Sought::End { at, whole } => Ok(Begun::Refused {
             at,
-            fault: unended(alloc, whole)?,
+            fault: no_end_text(alloc, whole)?,
         }),
     }
 }
@@ -190,7 +190,7 @@ fn begin_with<S: Source, L: Ledger>(
         }),
         Sought::End { at, whole } => Ok(Begun::Refused {
             at,
-            fault: unended(alloc, whole)?,
+            fault: no_end_text(alloc, whole)?,
         }),
     }
 }

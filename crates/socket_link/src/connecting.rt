@@ -3,7 +3,7 @@ ghost use Rattle.std.specs.Prelude.{◌≡◌, ◌<◌, ◌≤◌, None, IfOk, I
 ghost use Rattle.room_link.specs.Stops.{OnFailed};
 ghost use Rattle.room_link.specs.declared.passing.Stop.TheVariants.{OutOfMemory};
 
-use crate::counting::counted;
+use crate::counting::count_fault;
 use crate::link::{ClientLink, SocketLink};
 use crate::side::ClientSide;
 use room_link::accept::Accept;
@@ -115,7 +115,7 @@ where
                 let side = ClientSide::new(keys, self.connector.port());
                 Ok(Some(SocketLink::new(self.alloc, stream, side)))
             }
-            Err(_) => Err(counted(&mut self.faults)),
+            Err(_) => Err(count_fault(&mut self.faults)),
         }
     }
 

@@ -7,7 +7,7 @@ use room_link::passing::Stop;
 
 /// Counts a fault, and returns it. A count at its end, 2^64 − 1, stands still; what is returned is then
 /// `OutOfMemory`, since no fault is returned that isn't counted.
-pub(crate) fn counted(faults: &mut u64) -> Stop
+pub(crate) fn count_fault(faults: &mut u64) -> Stop
     ensures stays { faults.old ≤ faults.new }
     ensures failed { result ≡ Failed → faults.old < faults.new }
     ensures only_at_end { result ≡ OutOfMemory → faults.old ≡ u64.MAX }
@@ -28,6 +28,6 @@ pub(crate) fn stop_for(faults: &mut u64, broken: Broken) -> Stop
 {
     match broken {
         Broken::Memory => Stop::OutOfMemory,
-        Broken::Fault => counted(faults),
+        Broken::Fault => count_fault(faults),
     }
 }

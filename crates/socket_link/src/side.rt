@@ -37,7 +37,7 @@ fn limits() -> WebSocketConfig
 }
 
 // States the limits of a socket again, since the handshake doesn't say that it kept them.
-fn limited<S: Read + Write + Drop, K: MaskKeys + Drop>(socket: Socket<S, K>) -> Socket<S, K>
+fn with_limits<S: Read + Write + Drop, K: MaskKeys + Drop>(socket: Socket<S, K>) -> Socket<S, K>
     ensures { (role : Role) → Greeted role socket → Shaken role result }
 {
     let mut socket = socket;
@@ -46,7 +46,7 @@ fn limited<S: Read + Write + Drop, K: MaskKeys + Drop>(socket: Socket<S, K>) -> 
 }
 
 // Goes on with a handshake to its end. It fails where `HANDSHAKE_WAITS` waits have passed.
-fn finished<R: HandshakeRole + Drop>(rounds: MidHandshake<R>) -> Result<R::Finished, Broken>
+fn finish_handshake<R: HandshakeRole + Drop>(rounds: MidHandshake<R>) -> Result<R::Finished, Broken>
     ensures { IfOk result (λ finished. (role : R) × R.gives role finished) }
 {
     let mut rounds = rounds;
@@ -71,8 +71,8 @@ impl Side for NoMask {
         stream: Heard<S>,
     ) -> Result<Socket<S, NoMask>, Broken> {
         let rounds = server::start(alloc, stream, NoCallback, Some(limits()));
-        let socket = finished(rounds)?;
-        Ok(limited(socket))
+        let socket = finish_handshake(rounds)?;
+        Ok(with_limits(socket))
     }
 }
 
@@ -138,8 +138,8 @@ impl<M: MaskKeys + Drop> Side for ClientSide<M> {
         }
         match client::start(alloc, nonce, side, request, stream, Some(limits())) {
             Ok(rounds) => {
-                let (socket, _) = finished(rounds)?;
-                Ok(limited(socket))
+                let (socket, _) = finish_handshake(rounds)?;
+                Ok(with_limits(socket))
             }
             Err(error) => Err(why(&error)),
         }

@@ -28,21 +28,21 @@ pub(crate) enum Wire<S, K> {
 }
 
 // Sets the waits of a stream, and that small packets go at once.
-fn bounded<S: OpenStream>(stream: &S) -> io::Result<()> {
+fn set_waits<S: OpenStream>(stream: &S) -> io::Result<()> {
     stream.set_nodelay(true)?;
     stream.set_read_timeout(Some(Duration::from_millis(READ_WAIT)))?;
     stream.set_write_timeout(Some(Duration::from_millis(WRITE_WAIT)))
 }
 
 // Makes the handshake of a side on a stream, within a number of waits.
-fn shaken<S: Read + Write + OpenStream + Drop, K: Side>(
+fn greet<S: Read + Write + OpenStream + Drop, K: Side>(
     alloc: Global,
     stream: S,
     side: K,
 ) -> Result<Socket<S, K>, Broken>
     ensures { IfOk result (Shaken K.role) }
 {
-    if bounded(&stream).is_err() {
+    if set_waits(&stream).is_err() {
         return Err(Broken::Fault);
     }
     side.shake_hands(alloc, Heard { stream, reads: 0 })
@@ -55,7 +55,7 @@ impl<S: Read + Write + OpenStream + Drop, K: Side> Wire<S, K> {
     {
         match mem::replace(self, Wire::Over) {
             Wire::Fresh(stream, side) => {
-                *self = Wire::Open(shaken(alloc, stream, side)?);
+                *self = Wire::Open(greet(alloc, stream, side)?);
                 Ok(())
             }
             Wire::Open(socket) => {

@@ -3,7 +3,7 @@ ghost use Rattle.std.specs.Prelude.{◌≡◌, ◌<◌, ◌≤◌, None, IfOk, I
 ghost use Rattle.room_link.specs.Stops.{OnFailed};
 
 use crate::bounds::ACCEPTS;
-use crate::counting::counted;
+use crate::counting::count_fault;
 use crate::link::SocketLink;
 use room_link::accept::Accept;
 use room_link::passing::Stop;
@@ -42,7 +42,7 @@ impl<'a, L: OpenListener> ListenerWorker<'a, L> {
 
 // Accepts a connection, and again where one was aborted before it was accepted or a signal came; `ACCEPTS` times
 // at most.
-fn accepted<L: OpenListener>(listener: &L) -> Option<L::Stream> {
+fn accept_connection<L: OpenListener>(listener: &L) -> Option<L::Stream> {
     for _ in 0..ACCEPTS {
         match listener.accept() {
             Ok((stream, _)) => return Some(stream),
@@ -82,9 +82,9 @@ where
             return Ok(None);
         }
         self.links -= 1;
-        match accepted(self.listener) {
+        match accept_connection(self.listener) {
             Some(stream) => Ok(Some(SocketLink::new(self.alloc, stream, NoMask))),
-            None => Err(counted(&mut self.faults)),
+            None => Err(count_fault(&mut self.faults)),
         }
     }
 

@@ -59,7 +59,7 @@ fn by_index<D: DocStore>(
     match candidates(alloc, query, type_name, index)? {
         Some(ids) => {
             tell_rising(store, type_name);
-            met(alloc, query, store, ids)
+            ids_that_meet(alloc, query, store, ids)
         }
         None => by_walk(alloc, query, store, type_name),
     }
@@ -72,7 +72,7 @@ fn by_walk<D: DocStore>(alloc: Global, query: &Query, store: &D, type_name: &str
 {
     tell_rising(store, type_name);
     let ids = ids_of_type(alloc, store, type_name)?;
-    met(alloc, query, store, ids)
+    ids_that_meet(alloc, query, store, ids)
 }
 
 // The ids that meet the query by the index alone, where it is of the type and the query asks for a value of its field or
@@ -141,7 +141,12 @@ fn ids_of_type<D: DocStore>(alloc: Global, store: &D, type_name: &str) -> Mem<Ve
 }
 
 // Those of some ids whose record meets the query.
-fn met<D: DocStore>(alloc: Global, query: &Query, store: &D, ids: Vec<Text>) -> Mem<Vec<Text>>
+fn ids_that_meet<D: DocStore>(
+    alloc: Global,
+    query: &Query,
+    store: &D,
+    ids: Vec<Text>,
+) -> Mem<Vec<Text>>
     ensures { IfOk result (λ found. found.items
         ≡ filter (meets_at (D.records store.now) query.now) ids.items) }
 {

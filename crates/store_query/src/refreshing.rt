@@ -35,7 +35,7 @@ pub fn refresh(index: &mut FieldIndex, alloc: Global, store: &RecordStore) -> Me
     ensures err { OnErr result (IsUnrefreshed index.new) }
     ensures field { KeepsField index.old index.new }
 {
-    match refreshed(index, alloc, store) {
+    match catch_up(index, alloc, store) {
         Ok(()) => {
             tell_rising(store, index.type_name());
             index.set_epoch(Some(store.epoch()));
@@ -50,7 +50,7 @@ pub fn refresh(index: &mut FieldIndex, alloc: Global, store: &RecordStore) -> Me
 }
 
 // The same, but for the epoch and for what is left where memory is refused.
-fn refreshed(index: &mut FieldIndex, alloc: Global, store: &RecordStore) -> Mem<()>
+fn catch_up(index: &mut FieldIndex, alloc: Global, store: &RecordStore) -> Mem<()>
     ensures ok { OnOk result (CanRefresh index.old store.now
         → IsIndexOf (records store.now) index.new) }
     ensures field { KeepsField index.old index.new }

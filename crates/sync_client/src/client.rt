@@ -326,7 +326,8 @@ impl<D: DocStore> SyncClient<D> {
 
     /// The room's clock that it has reached, -1 before the first connection.
     pub fn reached(&self) -> i64
-        ensures { (state : ClientState) → Stands D.records state self.now → result ≡ state.client.reached }
+        ensures { (state : ClientState) → Stands D.records state self.now
+            → result ≡ state.client.reached }
     {
         self.reached
     }
@@ -412,7 +413,8 @@ impl<D: DocStore> SyncClient<D> {
         clock: i64,
         steps: &mut Steps<L>,
     ) -> Mem<()>
-        ensures ok { OnOk result ((state : ClientState) (session : ℕ) → Stands D.records state self.old
+        ensures ok { OnOk result ((state : ClientState) (session : ℕ)
+            → Stands D.records state self.old
             → state.client.connection ≡ Connection.Asking session
             → Stands D.records (hydrated (admits_of self.old.replica)
             (document_of self.old.replica) hydration diff.now clock state) self.new) }
@@ -432,7 +434,7 @@ impl<D: DocStore> SyncClient<D> {
         let own = Val::copy_slot(alloc, &self.presence)?;
         self.replica
             .take_snapshot(alloc, hydration, diff, own, steps)?;
-        self.connection = opened(self.connection);
+        self.connection = opened_connection(self.connection);
         self.reached = clock;
         self.counts.restart();
         Ok(())
@@ -524,7 +526,7 @@ fn refusal(before: Option<EndReason>, reason: EndReason) -> Option<EndReason>
 }
 
 // The connection that an answer opens.
-fn opened(connection: Connection) -> Connection
+fn opened_connection(connection: Connection) -> Connection
     ensures { result ≡ opened connection }
 {
     match connection {

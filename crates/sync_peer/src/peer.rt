@@ -130,8 +130,8 @@ impl Peer {
     /// empty; what others did since stays. Returns whether there was an edit to take back. It costs what the diff names.
     /// Where memory is refused the peer is as before.
     pub fn undo<L: Ledger>(&mut self, alloc: Global, steps: &mut Steps<L>) -> Mem<bool>
-        ensures answer { IfOk result (λ done. (schemas : WorldSchemas EditFault) (state : ClientState)
-            → Stands schemas state self.old → done ≡ is_some (undo_diff state.client.marks)) }
+        ensures answer { IfOk result (λ done. (schemas : WorldSchemas EditFault)
+            (state : ClientState) → Stands schemas state self.old → done ≡ is_some (undo_diff state.client.marks)) }
         ensures ok { OnOk result ((schemas : WorldSchemas EditFault) (state : ClientState)
             → Stands schemas state self.old → Stands schemas (undone schemas state) self.new) }
         ensures err { OnErr result ((schemas : WorldSchemas EditFault) (state : ClientState)
@@ -150,8 +150,8 @@ impl Peer {
     /// empty. Returns whether there was something to do again. It costs what the diff names. Where memory is refused the
     /// peer is as before.
     pub fn redo<L: Ledger>(&mut self, alloc: Global, steps: &mut Steps<L>) -> Mem<bool>
-        ensures answer { IfOk result (λ done. (schemas : WorldSchemas EditFault) (state : ClientState)
-            → Stands schemas state self.old → done ≡ is_some (redo_diff state.client.marks)) }
+        ensures answer { IfOk result (λ done. (schemas : WorldSchemas EditFault)
+            (state : ClientState) → Stands schemas state self.old → done ≡ is_some (redo_diff state.client.marks)) }
         ensures ok { OnOk result ((schemas : WorldSchemas EditFault) (state : ClientState)
             → Stands schemas state self.old → Stands schemas (redone schemas state) self.new) }
         ensures err { OnErr result ((schemas : WorldSchemas EditFault) (state : ClientState)
@@ -321,16 +321,16 @@ impl Peer {
 
     /// The room's clock that it has reached, -1 before the first connection.
     pub fn reached(&self) -> i64
-        ensures { (schemas : WorldSchemas EditFault) (state : ClientState) → Stands schemas state self.now
-            → result ≡ state.client.reached }
+        ensures { (schemas : WorldSchemas EditFault) (state : ClientState)
+            → Stands schemas state self.now → result ≡ state.client.reached }
     {
         self.client.reached()
     }
 
     /// How many works are pending: edits that the room hasn't answered, and presences that were set on this connection.
     pub fn owed(&self) -> usize
-        ensures { (schemas : WorldSchemas EditFault) (state : ClientState) → Stands schemas state self.now
-            → result ≡ length state.client.pending }
+        ensures { (schemas : WorldSchemas EditFault) (state : ClientState)
+            → Stands schemas state self.now → result ≡ length state.client.pending }
     {
         self.client.owed()
     }
@@ -413,8 +413,8 @@ impl Peer {
             (ws : Watches) → Stands schemas state self.old → IsClosed self.old
             → Stand (watched self.old) ws
             → by_number told.items ≡ news (shown schemas state) ws) }
-        ensures ok { OnOk result ((schemas : WorldSchemas EditFault) (state : ClientState) (ws : Watches)
-            → Stands schemas state self.old → IsClosed self.old → Stand (watched self.old) ws
+        ensures ok { OnOk result ((schemas : WorldSchemas EditFault) (state : ClientState)
+            (ws : Watches) → Stands schemas state self.old → IsClosed self.old → Stand (watched self.old) ws
             → Stand (watched self.new) (all_told (shown schemas state) ws)) }
         ensures err { OnErr result (watched self.new ≡ watched self.old) }
         ensures stands { (schemas : WorldSchemas EditFault) (state : ClientState)

@@ -138,7 +138,7 @@ impl Sessions {
     {
         let session = &mut self.present[key];
         let phase = mem::replace(&mut session.phase, Phase::New);
-        session.phase = reached(phase, clock);
+        session.phase = phase_once_sent(phase, clock);
         session.pushed.clear();
     }
 
@@ -194,7 +194,7 @@ impl Sessions {
 }
 
 // A phase once its session was sent everything up to a clock.
-fn reached(phase: Phase, clock: i64) -> Phase
+fn phase_once_sent(phase: Phase, clock: i64) -> Phase
     ensures { result ≡ reached clock phase }
 {
     match phase {

@@ -71,7 +71,7 @@ impl Live {
                 self.push(alloc, at)?;
                 Ok(Ok(Vec::new(alloc)))
             }
-            Err(fault) => refused(fault),
+            Err(fault) => refusal_of(fault),
         }
     }
 
@@ -92,7 +92,7 @@ impl Live {
                 self.push(alloc, at)?;
                 Ok(Ok(Vec::new(alloc)))
             }
-            Err(fault) => refused(edit_fault(fault)),
+            Err(fault) => refusal_of(edit_fault(fault)),
         }
     }
 
@@ -134,7 +134,7 @@ fn new_peer(alloc: Global, version: u32) -> Mem<Peer>
 }
 
 // The answer to an edit or a presence that is refused.
-fn refused(fault: EditFault) -> Mem<Answer>
+fn refusal_of(fault: EditFault) -> Mem<Answer>
     ensures { IfOk result (λ answer. (answer ≡ Err (StepFault.Edit fault))
         × (fault ≢ EditFault.OutOfMemory)) }
 {

@@ -36,7 +36,7 @@ impl Live {
         let Some(at) = self.place(number) else {
             return Ok(Err(StepFault::NoSuchClient));
         };
-        match copied(alloc, &self.clients[at].peer, ids)? {
+        match clip_of(alloc, &self.clients[at].peer, ids)? {
             Ok(clip) => {
                 self.clients[at].clip = Some(clip);
                 Ok(Ok(Vec::new(alloc)))
@@ -69,7 +69,7 @@ impl Live {
         let Some(clip) = &client.clip else {
             return Ok(Err(StepFault::NoClip));
         };
-        match pasted(alloc, clip, &client.peer, target)? {
+        match diff_to_paste(alloc, clip, &client.peer, target)? {
             Ok(wanted) => self.edit(alloc, number, &wanted, steps),
             Err(fault) => Ok(Err(StepFault::Paste(fault))),
         }
@@ -77,7 +77,7 @@ impl Live {
 }
 
 // The copy of shapes that a peer shows, or why there is none.
-fn copied(alloc: Global, peer: &Peer, ids: &[Text]) -> Mem<Result<Clip, ClipFault>>
+fn clip_of(alloc: Global, peer: &Peer, ids: &[Text]) -> Mem<Result<Clip, ClipFault>>
     ensures { IfOk result (IsCopyOf peer.now ids.now) }
 {
     let records = peer.records(alloc)?;
@@ -91,7 +91,12 @@ fn copied(alloc: Global, peer: &Peer, ids: &[Text]) -> Mem<Result<Clip, ClipFaul
 }
 
 // The diff that pastes a clip into what a peer shows, or why there is none.
-fn pasted(alloc: Global, clip: &Clip, peer: &Peer, target: &Target) -> Mem<Result<Diff, PasteFault>>
+fn diff_to_paste(
+    alloc: Global,
+    clip: &Clip,
+    peer: &Peer,
+    target: &Target,
+) -> Mem<Result<Diff, PasteFault>>
     requires dx { IsWithin greatest_whole target.now.dx }
     requires dy { IsWithin greatest_whole target.now.dy }
     ensures { IfOk result (IsPasteOf clip.now peer.now target.now) }

@@ -152,8 +152,8 @@ impl Live {
 
 // What a client can push, the oldest first. Where memory is refused nothing is said of the client.
 fn pushes(alloc: Global, peer: &mut Peer) -> Mem<Vec<ClientMessage>>
-    ensures pushes { IfOk result (λ messages. (schemas : WorldSchemas EditFault) (state : ClientState)
-        → peer_of.Stands schemas state peer.old
+    ensures pushes { IfOk result (λ messages. (schemas : WorldSchemas EditFault)
+        (state : ClientState) → peer_of.Stands schemas state peer.old
         → (messages.items ≡ (push_all state.client).messages)
         × peer_of.Stands schemas (record state {
           client = (push_all state.client).client;

@@ -100,7 +100,7 @@ impl Live {
         };
         self.room.handle(alloc, id, &message, steps)?;
         let line = OutLine::From { session, message };
-        Ok(Ok(traced(alloc, trace, line)?))
+        Ok(Ok(traced_lines(alloc, trace, line)?))
     }
 
     // The room gives a session what is next for it.
@@ -228,7 +228,7 @@ fn not_connected(fault: ConnectFault) -> Mem<Answer>
 }
 
 // A line of a trace, if messages are traced.
-fn traced(alloc: Global, trace: bool, line: OutLine) -> Mem<Vec<OutLine>>
+fn traced_lines(alloc: Global, trace: bool, line: OutLine) -> Mem<Vec<OutLine>>
     ensures { IfOk result (λ lines. lines.items ≡ trace_line trace line) }
 {
     if trace {

@@ -1,8 +1,8 @@
 //! Calls of a client by lines, and what it answers and shows.
 ghost use Rattle.std.specs.Prelude.{◌≡◌, ◌<◌};
 
-use crate::client::{Client, made};
-use crate::messages::{answer, data, diff, diff_text, first, number, reason, said};
+use crate::client::{Client, new_client};
+use crate::messages::{answer, data, diff, diff_text, first, message_text, number, reason};
 use doc_store::DocStore;
 use field_ops::Diff;
 use rooms_val::{Fields, Mem, Steps, Val};
@@ -19,7 +19,7 @@ pub(crate) fn call(alloc: Global, client: &mut Client, line: &str) -> Result<Str
     let (verb, rest) = first(line);
     match verb {
         "new" => {
-            *client = made(alloc)?;
+            *client = new_client(alloc)?;
             Ok(String::from_str(alloc, "done")?)
         }
         "edit" => edit(alloc, client, rest),
@@ -102,7 +102,7 @@ fn presence(alloc: Global, client: &mut Client, text: &str) -> Result<String, Fa
 /// Asks to be connected, and answers what is said, or the fault.
 fn connect(alloc: Global, client: &mut Client, text: &str) -> Result<String, Fail> {
     match client.connect(alloc, text.parse::<u64>()?) {
-        Ok(message) => said(alloc, &message),
+        Ok(message) => message_text(alloc, &message),
         Err(fault) => Ok(format!(in alloc; "{fault:?}")?),
     }
 }
@@ -110,13 +110,13 @@ fn connect(alloc: Global, client: &mut Client, text: &str) -> Result<String, Fai
 /// The next push, or `none`.
 fn push(alloc: Global, client: &mut Client) -> Result<String, Fail> {
     match client.next_push(alloc)? {
-        Some(message) => said(alloc, &message),
+        Some(message) => message_text(alloc, &message),
         None => Ok(String::from_str(alloc, "none")?),
     }
 }
 
 /// What a client has: the clock, how much is owed, the notes and the pointers of others, each as its id and its `x`.
-pub(crate) fn shown(alloc: Global, client: &Client) -> Result<String, Fail> {
+pub(crate) fn client_text(alloc: Global, client: &Client) -> Result<String, Fail> {
     let clock = client.reached();
     let owed = client.owed();
     let mut text = format!(in alloc; "{clock} owes {owed}:")?;

@@ -34,7 +34,7 @@ fn schema(alloc: Global) -> Result<Schema, Fail> {
 }
 
 /// A client that did nothing.
-pub(crate) fn made(alloc: Global) -> Result<Client, Fail> {
+pub(crate) fn new_client(alloc: Global) -> Result<Client, Fail> {
     let schema = schema(alloc)?;
     Ok(SyncClient::new(alloc, schema, CountingStore::new(alloc)))
 }

@@ -5,7 +5,7 @@ use rooms_val::Text;
 use std::alloc::Global;
 use std::test::Fail;
 use sync_msgs::{Action, ClientMessage, DataEvent, EndReason, Events, Hydration, ServerMessage};
-use test_with_cases::{printed, value};
+use test_with_cases::{val_text, value};
 
 /// The first word of a text, and what comes after it.
 pub(crate) fn first(text: &str) -> (&str, &str) {
@@ -27,7 +27,7 @@ pub(crate) fn diff(alloc: Global, text: &str) -> Result<Diff, Fail> {
 
 /// The text of a diff.
 pub(crate) fn diff_text(alloc: Global, diff: &Diff) -> Result<String, Fail> {
-    printed(alloc, &diff_val(alloc, diff)?)
+    val_text(alloc, &diff_val(alloc, diff)?)
 }
 
 /// The reason of a word.
@@ -107,7 +107,7 @@ fn action(alloc: Global, word: &str, rest: &str) -> Result<Action, Fail> {
 }
 
 /// What a client says: its request with the clock that it has reached, or its push.
-pub(crate) fn said(alloc: Global, message: &ClientMessage) -> Result<String, Fail> {
+pub(crate) fn message_text(alloc: Global, message: &ClientMessage) -> Result<String, Fail> {
     match message {
         ClientMessage::Connect {
             connect_request_id,
@@ -134,7 +134,7 @@ pub(crate) fn said(alloc: Global, message: &ClientMessage) -> Result<String, Fai
 fn work(alloc: Global, diff: Option<&Diff>, presence: Option<&RecordOp>) -> Result<String, Fail> {
     match (diff, presence) {
         (Some(diff), None) => diff_text(alloc, diff),
-        (None, Some(op)) => printed(alloc, &op_val(alloc, op)?),
+        (None, Some(op)) => val_text(alloc, &op_val(alloc, op)?),
         _ => Ok(String::from_str(alloc, "something else")?),
     }
 }

@@ -3,7 +3,7 @@
 ghost use Rattle.std.specs.Prelude.{◌≡◌, ◌<◌};
 
 use crate::calls::message;
-use crate::messages::{diff, first, said};
+use crate::messages::{diff, first, message_text};
 use crate::scripts::{difference, is_shown};
 use live_views::WatchId;
 use rooms_val::{Steps, Text, Val};
@@ -14,8 +14,8 @@ use std::process::Abort;
 use std::sync::ledger::{Blank, Ledger};
 use std::test::Fail;
 use sync_peer::Peer;
-use test_with_boards::expanded;
-use test_with_cases::{cells, printed, rows, value};
+use test_with_boards::board_text;
+use test_with_cases::{cells, rows, val_text, value};
 use view_vals::read_view;
 
 /// The newest version of the tables.
@@ -111,7 +111,7 @@ fn call_in<L: Ledger>(
         "undo" => Ok(format!(in alloc; "{}", peer.undo(alloc, &mut steps)?)?),
         "redo" => Ok(format!(in alloc; "{}", peer.redo(alloc, &mut steps)?)?),
         "bail" => bail(alloc, peer, rest, &mut steps),
-        "told" => told(alloc, peer, &mut steps),
+        "told" => news(alloc, peer, &mut steps),
         _ => Err(Fail::from("no call")),
     }
 }
@@ -130,19 +130,19 @@ fn call(alloc: Global, peer: &mut Peer, line: &str) -> Result<String, Fail> {
 }
 
 /// A peer that did nothing.
-fn made(alloc: Global) -> Result<Peer, Fail> {
+fn new_peer(alloc: Global) -> Result<Peer, Fail> {
     Ok(Peer::new(alloc, VERSION)?)
 }
 
 /// Begins anew.
 fn renew(alloc: Global, peer: &mut Peer) -> Result<String, Fail> {
-    *peer = made(alloc)?;
+    *peer = new_peer(alloc)?;
     Ok(String::from_str(alloc, "done")?)
 }
 
 /// Asks to be connected, and answers what is said.
 fn connect(alloc: Global, peer: &mut Peer, request: &str) -> Result<String, Fail> {
-    said(alloc, &peer.connect(alloc, request.parse::<u64>()?)?)
+    message_text(alloc, &peer.connect(alloc, request.parse::<u64>()?)?)
 }
 
 /// Watches a view, and answers the watch's number.
@@ -161,7 +161,7 @@ fn mark(alloc: Global, peer: &mut Peer, name: &str) -> Result<String, Fail> {
 /// The next push.
 fn push(alloc: Global, peer: &mut Peer) -> Result<String, Fail> {
     match peer.next_push(alloc)? {
-        Some(message) => said(alloc, &message),
+        Some(message) => message_text(alloc, &message),
         None => Ok(String::from_str(alloc, "none")?),
     }
 }
@@ -209,7 +209,7 @@ fn bail<L: Ledger>(
 }
 
 /// What the watched views tell that is new, or `nothing`.
-fn told<L: Ledger>(alloc: Global, peer: &mut Peer, steps: &mut Steps<L>) -> Result<String, Fail> {
+fn news<L: Ledger>(alloc: Global, peer: &mut Peer, steps: &mut Steps<L>) -> Result<String, Fail> {
     let told = peer.told(alloc, steps)?;
     if told.is_empty() {
         return Ok(String::from_str(alloc, "nothing")?);
@@ -221,7 +221,7 @@ fn told<L: Ledger>(alloc: Global, peer: &mut Peer, steps: &mut Steps<L>) -> Resu
 fn told_text(alloc: Global, told: &[(WatchId, Val)]) -> Result<String, Fail> {
     let mut text = String::new(alloc);
     for (watch, value) in told {
-        let value = printed(alloc, value)?;
+        let value = val_text(alloc, value)?;
         let part = format!(in alloc; "{} is {value}", watch.number)?;
         text.push_str(part.as_str())?;
     }
@@ -229,22 +229,22 @@ fn told_text(alloc: Global, told: &[(WatchId, Val)]) -> Result<String, Fail> {
 }
 
 /// What a peer has: the clock, how much is owed, and its document.
-fn shown(alloc: Global, peer: &Peer) -> Result<String, Fail> {
+fn peer_text(alloc: Global, peer: &Peer) -> Result<String, Fail> {
     let clock = peer.reached();
     let owed = peer.owed();
-    let document = printed(alloc, &peer.document(alloc)?)?;
+    let document = val_text(alloc, &peer.document(alloc)?)?;
     Ok(format!(in alloc; "{clock} owes {owed}: {document}")?)
 }
 
 /// Does the calls of a script over a new peer: the first that gives or shows something else, with that.
 fn difference_in(alloc: Global, script: &str) -> Result<Option<String>, Fail> {
-    let mut peer = made(alloc)?;
+    let mut peer = new_peer(alloc)?;
     difference_over(alloc, &mut peer, script)
 }
 
 /// The same over a peer that is there.
 fn difference_over(alloc: Global, peer: &mut Peer, script: &str) -> Result<Option<String>, Fail> {
-    let mut now = shown(alloc, peer)?;
+    let mut now = peer_text(alloc, peer)?;
     for row in &rows(alloc, script)? {
         if let Some(difference) = difference_at(alloc, peer, row, &mut now)? {
             return Ok(Some(difference));
@@ -265,7 +265,7 @@ fn difference_at(
     if gives.as_str() != wanted {
         return difference(alloc, row, gives.as_str());
     }
-    let shows = shown(alloc, peer)?;
+    let shows = peer_text(alloc, peer)?;
     if !is_shown(shows.as_str(), after, now.as_str()) {
         return difference(alloc, row, shows.as_str());
     }
@@ -275,7 +275,7 @@ fn difference_at(
 
 #[test]
 fn peers_are_as_before_a_message_that_they_refuse(rt: HostRuntime) -> Result<(), Fail> {
-    let script = expanded(rt.alloc(), REFUSALS)?;
+    let script = board_text(rt.alloc(), REFUSALS)?;
     if let Some(difference) = difference_in(rt.alloc(), script.as_str())? {
         assert_eq!(&rt; difference.as_str(), "");
     }
@@ -284,7 +284,7 @@ fn peers_are_as_before_a_message_that_they_refuse(rt: HostRuntime) -> Result<(),
 
 #[test]
 fn peers_patch_what_is_not_admitted_only_to_what_is(rt: HostRuntime) -> Result<(), Fail> {
-    let script = expanded(rt.alloc(), NOT_ADMITTED)?;
+    let script = board_text(rt.alloc(), NOT_ADMITTED)?;
     if let Some(difference) = difference_in(rt.alloc(), script.as_str())? {
         assert_eq!(&rt; difference.as_str(), "");
     }

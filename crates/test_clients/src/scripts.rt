@@ -1,6 +1,6 @@
 //! Scripts of calls: in each row a call, what it answers, and what the client shows afterwards, where that is new.
-use crate::calls::{call, shown};
-use crate::client::{Client, made};
+use crate::calls::{call, client_text};
+use crate::client::{Client, new_client};
 use std::alloc::Global;
 use std::process::Abort;
 use std::test::Fail;
@@ -8,8 +8,8 @@ use test_with_cases::{cells, rows};
 
 /// Does the calls of a script over a new client: the first that gives or shows something else, with that.
 fn difference_in(alloc: Global, script: &str) -> Result<Option<String>, Fail> {
-    let mut client = made(alloc)?;
-    let mut now = shown(alloc, &client)?;
+    let mut client = new_client(alloc)?;
+    let mut now = client_text(alloc, &client)?;
     for row in &rows(alloc, script)? {
         if let Some(difference) = difference_at(alloc, &mut client, row, &mut now)? {
             return Ok(Some(difference));
@@ -30,7 +30,7 @@ fn difference_at(
     if told.as_str() != wanted {
         return difference(alloc, row, told.as_str());
     }
-    let found = shown(alloc, client)?;
+    let found = client_text(alloc, client)?;
     if !is_shown(found.as_str(), after, now.as_str()) {
         return difference(alloc, row, found.as_str());
     }

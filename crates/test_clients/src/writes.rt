@@ -1,7 +1,7 @@
 //! How often a client writes to its store where it takes a message over pending patches: once under each id that the message
 //! brings or that an edit names which it ends, and not at all where it commits the first edits alone.
 use crate::calls::call;
-use crate::client::{Client, made};
+use crate::client::{Client, new_client};
 use crate::scripts::difference;
 use std::alloc::Global;
 use std::test::Fail;
@@ -49,16 +49,16 @@ fn answer_of(alloc: Global, notes: u32) -> Result<String, Fail> {
 }
 
 /// Does a call by its line.
-fn done(alloc: Global, client: &mut Client, line: &str) -> Result<(), Fail> {
+fn do_call(alloc: Global, client: &mut Client, line: &str) -> Result<(), Fail> {
     drop(call(alloc, client, line)?);
     Ok(())
 }
 
 /// Connects a client, whose base has so many notes then.
 fn connect(alloc: Global, client: &mut Client, notes: u32) -> Result<(), Fail> {
-    done(alloc, client, "connect 4")?;
+    do_call(alloc, client, "connect 4")?;
     let answer = answer_of(alloc, notes)?;
-    done(alloc, client, answer.as_str())
+    do_call(alloc, client, answer.as_str())
 }
 
 /// The part of a diff that patches a note.
@@ -81,7 +81,7 @@ fn edit(
         edit.push_str(patch(alloc, note, place)?.as_str())?;
     }
     edit.push_str("}")?;
-    done(alloc, client, edit.as_str())
+    do_call(alloc, client, edit.as_str())
 }
 
 /// Makes a connected client's pending patches in so many edits, of so many notes.
@@ -94,7 +94,7 @@ fn edit_all(alloc: Global, client: &mut Client, edits: u32, notes: u32) -> Resul
 }
 
 /// How often a client writes at calls, of which the last takes a message.
-fn written(alloc: Global, client: &mut Client, calls: &str) -> Result<u64, Fail> {
+fn count_writes(alloc: Global, client: &mut Client, calls: &str) -> Result<u64, Fail> {
     let before = client.store().writes();
     let mut told = String::new(alloc);
     for line in calls.split(" & ") {
@@ -110,10 +110,10 @@ fn written(alloc: Global, client: &mut Client, calls: &str) -> Result<u64, Fail>
 fn difference_at(alloc: Global, row: &str) -> Result<Option<String>, Fail> {
     let [notes, edits, calls, wanted] = cells(row);
     let notes = notes.parse::<u32>()?;
-    let mut client = made(alloc)?;
+    let mut client = new_client(alloc)?;
     connect(alloc, &mut client, notes)?;
     edit_all(alloc, &mut client, edits.parse::<u32>()?, notes)?;
-    let writes = written(alloc, &mut client, calls)?;
+    let writes = count_writes(alloc, &mut client, calls)?;
     let writes = format!(in alloc; "{writes}")?;
     if writes.as_str() == wanted {
         return Ok(None);

@@ -104,7 +104,7 @@ pub(crate) fn outcome(alloc: Global, end: &str, sent: &str, written: &str) -> Re
 }
 
 /// The outcome of a script in a room, over a link on which this comes.
-pub(crate) fn played(
+pub(crate) fn play_script(
     alloc: Global,
     room: u32,
     script: &str,

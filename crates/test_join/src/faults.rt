@@ -1,5 +1,5 @@
 //! A script of which each call on its source, its sink and its link fails in turn.
-use crate::calls::{Kind, outcome, played};
+use crate::calls::{Kind, outcome, play_script};
 use crate::texts::{items, lines_of};
 use std::alloc::Global;
 use std::process::Abort;
@@ -106,7 +106,7 @@ fn fails_in_turn(rt: &impl Abort, alloc: Global, kind: Kind) -> Result<(), Fail>
     for number in 0..MOST_CALLS {
         let (wanted, fails) = cut_off(alloc, &calls, kind, number.saturating_mul(bytes))?;
         let failing = Some((kind, number));
-        let found = played(alloc, 0, script.as_str(), comes.as_str(), PART, failing)?;
+        let found = play_script(alloc, 0, script.as_str(), comes.as_str(), PART, failing)?;
         assert_eq!(rt;
             found.as_str(),
             wanted.as_str(),

@@ -2,7 +2,7 @@
 //!
 //! A row has four cells: the script, what comes over its link, what is written, and how the script ends, with what goes out behind `: `.
 //! The room has the number 0, or N where the script begins with `@N; `.
-use crate::calls::{outcome, played};
+use crate::calls::{outcome, play_script};
 use crate::texts::lines_of;
 use std::alloc::Global;
 use std::process::Abort;
@@ -26,7 +26,7 @@ fn outcomes(alloc: Global, row: &str) -> Result<(String, String), Fail> {
     let (room, script) = in_room(script);
     let room = room.parse::<u32>()?;
     let script = lines_of(alloc, script)?;
-    let found = played(alloc, room, script.as_str(), comes, PART, None)?;
+    let found = play_script(alloc, room, script.as_str(), comes, PART, None)?;
     let (end, sent) = ended.split_once(": ").unwrap_or((ended, "-"));
     let sent = lines_of(alloc, sent)?;
     let written = lines_of(alloc, written)?;

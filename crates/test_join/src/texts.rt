@@ -6,7 +6,7 @@ use room_link::passing::Arrival;
 use std::alloc::Global;
 use std::collections::VecDeque;
 use std::test::Fail;
-use test_with_boards::expanded;
+use test_with_boards::board_text;
 
 /// The text of a short name, in which `@` stands for a word behind the name; empty where the name is none.
 fn text_by(name: &str) -> &'static str {
@@ -60,7 +60,7 @@ fn text_by(name: &str) -> &'static str {
 }
 
 /// A text with the given words in the places of its `@`, in order.
-fn filled(alloc: Global, text: &str, given: &str) -> Result<String, Fail> {
+fn with_words(alloc: Global, text: &str, given: &str) -> Result<String, Fail> {
     let mut words = given.split(' ');
     let mut parts = text.split('@');
     let mut out = String::from_str(alloc, parts.next().unwrap_or(""))?;
@@ -74,7 +74,7 @@ fn filled(alloc: Global, text: &str, given: &str) -> Result<String, Fail> {
 }
 
 /// A text in which what is to be repeated is written out.
-fn repeated(alloc: Global, text: &str) -> Result<String, Fail> {
+fn with_repeats(alloc: Global, text: &str) -> Result<String, Fail> {
     let mut parts = text.split('<');
     let mut out = String::from_str(alloc, parts.next().unwrap_or(""))?;
     for part in parts {
@@ -93,10 +93,10 @@ fn text_of(alloc: Global, item: &str) -> Result<String, Fail> {
     let text = if named.is_empty() {
         String::from_str(alloc, item)?
     } else {
-        filled(alloc, named, given)?
+        with_words(alloc, named, given)?
     };
-    let text = repeated(alloc, text.as_str())?;
-    expanded(alloc, text.as_str())
+    let text = with_repeats(alloc, text.as_str())?;
+    board_text(alloc, text.as_str())
 }
 
 /// The items of a cell.

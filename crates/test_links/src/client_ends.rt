@@ -1,5 +1,5 @@
 //! A client's end of a link: a worker that connects, over a real listener or over known bytes.
-use crate::link_calls::played;
+use crate::link_calls::link_words;
 use crate::listener_ends::{OneKey, Served, serve_all};
 use room_link::accept::Accept;
 use room_link::link::Link;
@@ -95,7 +95,7 @@ pub(crate) fn played_over(alloc: Global, frames: &[u8], calls: &str) -> Result<S
         return Ok(String::from_str(alloc, "NONE")?);
     };
     let mut link = link;
-    let words = played(alloc, &mut link, calls)?;
+    let words = link_words(alloc, &mut link, calls)?;
     worker.back(link);
     Ok(words)
 }

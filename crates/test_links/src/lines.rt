@@ -27,7 +27,7 @@ const RECORDINGS: [(&str, &str); 10] = [
 
 /// What a reader gives of a source: each line and `|`, and `.` at the end of a whole recording. After a fault the call is
 /// made again.
-fn given<S: Source>(alloc: Global, source: &mut S) -> Result<Vec<u8>, Fail> {
+fn text_of<S: Source>(alloc: Global, source: &mut S) -> Result<Vec<u8>, Fail> {
     let mut reader = LineReader::new(alloc)?;
     let mut text = Vec::new(alloc);
     for _ in 0..1_000 {
@@ -70,7 +70,7 @@ fn gives_the_lines_at_every_cut(rt: HostRuntime) -> Result<(), Fail> {
         let wanted = format!(in alloc; "{lines}.")?;
         for most in [1, 2, 3, 4, 5, 65_536] {
             let mut source = SteadySource::new(bytes_of(alloc, recording)?, most);
-            assert_eq!(&rt; given(alloc, &mut source)?.as_slice(), wanted.as_bytes());
+            assert_eq!(&rt; text_of(alloc, &mut source)?.as_slice(), wanted.as_bytes());
         }
     }
     Ok(())
@@ -89,7 +89,7 @@ fn goes_on_after_a_fault(rt: HostRuntime) -> Result<(), Fail> {
                 source: SteadySource::new(bytes_of(alloc, recording)?, 1),
                 script: Script::new(calls),
             };
-            assert_eq!(&rt; given(alloc, &mut source)?.as_slice(), wanted.as_bytes());
+            assert_eq!(&rt; text_of(alloc, &mut source)?.as_slice(), wanted.as_bytes());
         }
     }
     Ok(())
@@ -107,7 +107,7 @@ fn refuses_a_line_that_is_too_long(rt: HostRuntime) -> Result<(), Fail> {
     let alloc = rt.alloc();
     for most in [65_535, 65_536] {
         for after in ["", "\n", "\nb\n"] {
-            let longest = given(
+            let longest = text_of(
                 alloc,
                 &mut SteadySource::new(long(alloc, LONGEST_LINE, after)?, most),
             )?;
@@ -117,7 +117,7 @@ fn refuses_a_line_that_is_too_long(rt: HostRuntime) -> Result<(), Fail> {
                 if after.len() == 3 { "|b|." } else { "|." },
             )?;
             assert!(&rt; longest == wanted);
-            let longer = given(
+            let longer = text_of(
                 alloc,
                 &mut SteadySource::new(long(alloc, LONGEST_LINE + 1, after)?, most),
             )?;

@@ -73,7 +73,11 @@ fn done_word(done: Result<(), Stop>) -> &'static str {
 
 /// What each call on a link answers, as words: `?` takes what is next, `!` closes for `ROOM_FULL`, and any other word is
 /// sent.
-pub(crate) fn played<K: Link>(alloc: Global, link: &mut K, calls: &str) -> Result<String, Fail> {
+pub(crate) fn link_words<K: Link>(
+    alloc: Global,
+    link: &mut K,
+    calls: &str,
+) -> Result<String, Fail> {
     let mut words = String::new(alloc);
     for call in calls.split_whitespace() {
         match call {
@@ -113,7 +117,7 @@ pub(crate) fn link_difference(alloc: Global, row: &str) -> Result<Option<String>
         link: SteadyLink::new(alloc, arrivals(alloc, arriving)?),
         script: Script::new(numbers(alloc, failing)?),
     });
-    let answers = played(alloc, &mut link, calls)?;
+    let answers = link_words(alloc, &mut link, calls)?;
     let sent = sent_words(alloc, link.link.sent.as_slice())?;
     let came = format!(in alloc; "{answers} = {sent}")?;
     Ok(if came.as_str() == wanted {
@@ -137,7 +141,7 @@ fn links_of(alloc: Global, count: u64) -> Result<SteadyAccept<SteadyLink>, Fail>
 }
 
 /// What each call answers, as words: `?` takes the next link, and `<` gives back the last that is out.
-fn accepted<A: Accept<Link = SteadyLink>>(
+fn accept_words<A: Accept<Link = SteadyLink>>(
     alloc: Global,
     accept: &mut A,
     calls: &str,
@@ -170,9 +174,9 @@ pub(crate) fn accept_difference(alloc: Global, row: &str) -> Result<Option<Strin
         accept: links_of(alloc, count.parse::<u64>()?)?,
         script: Script::new(numbers(alloc, failing)?),
     });
-    let mut came = accepted(alloc, &mut accept, calls)?;
+    let mut came = accept_words(alloc, &mut accept, calls)?;
     came.push_str(" =")?;
-    match accept.accept.returned() {
+    match accept.accept.returned_links() {
         Some(links) => {
             for link in links {
                 let number = format!(in alloc; " {}", link.arrivals.len())?;

@@ -92,7 +92,7 @@ impl MaskKeys for OneKey {
 }
 
 /// What a message is, as words.
-fn told(alloc: Global, message: &Message) -> Result<String, Fail> {
+fn words_of(alloc: Global, message: &Message) -> Result<String, Fail> {
     Ok(match message {
         Message::Text(text) => format!(in alloc; "text {}; ", text.as_str())?,
         Message::Pong(bytes) => format!(in alloc; "pong of {}; ", bytes.len())?,
@@ -113,7 +113,7 @@ fn asks<S: Read + Write + Drop>(
 ) -> Result<(), Fail> {
     socket.send(message)?;
     let answer = socket.read()?;
-    let word = told(alloc, &answer)?;
+    let word = words_of(alloc, &answer)?;
     words.push_str(word.as_str())?;
     Ok(())
 }

@@ -185,7 +185,7 @@ fn makes_the_lines_of_each_seed(rt: HostRuntime) -> Result<(), Fail> {
 const COUNTS: [(u32, u32); 2] = [(0, 1), (50, 14)];
 
 // How many records events put at clients of a version. Each of them has to be admitted there.
-fn admitted(alloc: Global, version: u32, events: &[Event]) -> Result<u32, Fail> {
+fn count_admitted(alloc: Global, version: u32, events: &[Event]) -> Result<u32, Fail> {
     let schema = schema_at(alloc, version)?;
     let mut count = 0u32;
     for event in events {
@@ -234,13 +234,13 @@ fn version_of(event: &Event) -> u32 {
 fn admitted_by(alloc: Global, maker: &mut Maker) -> Result<u32, Fail> {
     let events = maker.draw(alloc, &LAST)?;
     let version = events.first().map_or(3, version_of);
-    admitted(alloc, version, &events)
+    count_admitted(alloc, version, &events)
 }
 
 // How many records are put by so many draws, and before them.
 fn count_put(alloc: Global, seed: u64, draws: u32) -> Result<u32, Fail> {
     let mut maker = Maker::new(seed);
-    let mut count = admitted(alloc, 3, &maker.first(alloc)?)?;
+    let mut count = count_admitted(alloc, 3, &maker.first(alloc)?)?;
     for _ in 0..draws {
         count = count.saturating_add(admitted_by(alloc, &mut maker)?);
     }

@@ -47,7 +47,7 @@ pub(crate) fn line_text(alloc: Global, said: &str) -> Result<String, Fail> {
     let (word, rest) = cut(said);
     match word {
         "ids" => text_of(alloc, &ids(alloc, rest)?),
-        "told" => text_of(alloc, &told(alloc, rest)?),
+        "told" => text_of(alloc, &watch_line(alloc, rest)?),
         _ => world_text(alloc, world_line(alloc, word, rest)?),
     }
 }
@@ -84,7 +84,7 @@ fn world_line(alloc: Global, word: &str, rest: &str) -> Result<OutLine, Fail> {
         "end" => end(alloc, rest),
         "fault" => fault(alloc, rest),
         "undo" | "redo" => taken_back(word, rest),
-        _ => ended(word, rest),
+        _ => session_end(word, rest),
     }
 }
 
@@ -141,7 +141,7 @@ fn taken_back(word: &str, rest: &str) -> Result<OutLine, Fail> {
 }
 
 // The end of a session, at its client or in a trace.
-fn ended(word: &str, rest: &str) -> Result<OutLine, Fail> {
+fn session_end(word: &str, rest: &str) -> Result<OutLine, Fail> {
     let (whose, reason) = cut(rest);
     let whose = number(whose)?;
     let reason = reason_of(reason)?;
@@ -187,7 +187,7 @@ fn ids(alloc: Global, rest: &str) -> Result<PrintedLine, Fail> {
 }
 
 // What a watch tells.
-fn told(alloc: Global, rest: &str) -> Result<PrintedLine, Fail> {
+fn watch_line(alloc: Global, rest: &str) -> Result<PrintedLine, Fail> {
     let (client, rest) = cut(rest);
     let (watch, told) = cut(rest);
     let client = number(client)?;

@@ -227,7 +227,7 @@ pub(crate) fn header_text(alloc: Global, line: &str) -> Result<String, Fail> {
 
 // The length of a line, and the names of what it is refused for as an event and as a header.
 pub(crate) fn sized_text(alloc: Global, size: &str) -> Result<String, Fail> {
-    let line = sized(alloc, size)?;
+    let line = line_of_size(alloc, size)?;
     let event = event_fault(alloc, &line);
     let header = header_fault(alloc, &line);
     Ok(format!(in alloc; "{} {event} {header}", line.len())?)
@@ -251,7 +251,7 @@ fn header_fault(alloc: Global, line: &[u8]) -> &'static str {
 
 // A line of some size: `nested n` is n lists, one in the other, and `padded a b` the end of a recording after a spaces and
 // before b.
-fn sized(alloc: Global, size: &str) -> Result<Vec<u8>, Fail> {
+fn line_of_size(alloc: Global, size: &str) -> Result<Vec<u8>, Fail> {
     let (word, rest) = size.split_once(' ').unwrap_or((size, ""));
     let mut line = Vec::new(alloc);
     if word == "nested" {

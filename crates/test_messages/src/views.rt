@@ -3,7 +3,7 @@ use crate::tables::{Reading, plays};
 use rooms_val::OpFault;
 use std::alloc::Global;
 use std::test::Fail;
-use test_with_cases::{printed, value};
+use test_with_cases::{val_text, value};
 use view_vals::{query_val, read_query, read_view, view_val};
 
 // A view of each form.
@@ -92,7 +92,7 @@ WrongKind | ["not","or",[]]
 // The value that a view is written as which is read from one, or the name of the fault.
 pub(crate) fn view_text(alloc: Global, text: &str) -> Result<String, Fail> {
     match read_view(alloc, &value(alloc, text)?) {
-        Ok(view) => printed(alloc, &view_val(alloc, &view)?),
+        Ok(view) => val_text(alloc, &view_val(alloc, &view)?),
         Err(fault) => fault_text(alloc, fault),
     }
 }
@@ -100,7 +100,7 @@ pub(crate) fn view_text(alloc: Global, text: &str) -> Result<String, Fail> {
 // The value that a query is written as which is read from one, or the name of the fault.
 pub(crate) fn query_text(alloc: Global, text: &str) -> Result<String, Fail> {
     match read_query(alloc, &value(alloc, text)?) {
-        Ok(query) => printed(alloc, &query_val(alloc, &query)?),
+        Ok(query) => val_text(alloc, &query_val(alloc, &query)?),
         Err(fault) => fault_text(alloc, fault),
     }
 }

@@ -47,7 +47,7 @@ pub(crate) fn can_all_scale(list: &[Sequence]) -> bool
 }
 
 /// The sequences of a list that fit together.
-pub(crate) fn built(alloc: Global, list: Vec<Sequence>) -> Result<Sequences, Fail> {
+pub(crate) fn sequences_of(alloc: Global, list: Vec<Sequence>) -> Result<Sequences, Fail> {
     if !can_all_scale(&list) {
         return Err(Fail::from("factors of 2 and more were wanted"));
     }

@@ -5,7 +5,7 @@ use migrate_steps::{Filter, MigStep, Migration, Sequence};
 use rooms_val::Text;
 use std::alloc::Global;
 use std::test::Fail;
-use test_with_cases::printed;
+use test_with_cases::val_text;
 
 /// What the record of an order has before any migration, and the ids of all those that are run here.
 const MARKS: [&str; 9] = ["at", "a/1", "b/1", "b/2", "c/1", "c/2", "d/1", "d/2", "e/1"];
@@ -58,7 +58,7 @@ fn sequence(alloc: Global, words: &str) -> Result<Sequence, Fail> {
 }
 
 /// The sequences that are parted by semicolons.
-pub(crate) fn listed(alloc: Global, words: &str) -> Result<Vec<Sequence>, Fail> {
+pub(crate) fn read_sequences(alloc: Global, words: &str) -> Result<Vec<Sequence>, Fail> {
     let mut sequences = Vec::new(alloc);
     for words in words.split("; ") {
         sequences.push(sequence(alloc, words)?)?;
@@ -77,7 +77,7 @@ fn cycle_text(alloc: Global, ids: &[Text]) -> Result<String, Fail> {
 }
 
 /// The name of a fault, and the ids at fault.
-fn told(alloc: Global, fault: &SeqFault) -> Result<String, Fail> {
+fn fault_text(alloc: Global, fault: &SeqFault) -> Result<String, Fail> {
     match fault {
         SeqFault::Gap(id) => Ok(format!(in alloc; "Gap {}", id.as_str())?),
         SeqFault::BadId(id) => Ok(format!(in alloc; "BadId {}", id.as_str())?),
@@ -89,19 +89,19 @@ fn told(alloc: Global, fault: &SeqFault) -> Result<String, Fail> {
 }
 
 /// The newest versions of some sequences, or the fault.
-pub(crate) fn fitted(alloc: Global, words: &str) -> Result<String, Fail> {
-    let list = listed(alloc, words)?;
+pub(crate) fn newest_or_fault(alloc: Global, words: &str) -> Result<String, Fail> {
+    let list = read_sequences(alloc, words)?;
     if !can_all_scale(&list) {
         return Err(Fail::from("factors of 2 and more were wanted"));
     }
     match Sequences::build(alloc, list) {
         Ok(sequences) => newest(alloc, &sequences),
-        Err(fault) => told(alloc, &fault),
+        Err(fault) => fault_text(alloc, &fault),
     }
 }
 
 /// The newest versions of some sequences.
 fn newest(alloc: Global, sequences: &Sequences) -> Result<String, Fail> {
     let versions = sequences.serialized(alloc)?.copy(alloc)?;
-    printed(alloc, &versions.val(alloc)?)
+    val_text(alloc, &versions.val(alloc)?)
 }

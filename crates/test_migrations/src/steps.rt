@@ -1,11 +1,11 @@
 //! What the steps of migrations make of records, up and down.
-use crate::build::{built, migration, step};
+use crate::build::{migration, sequences_of, step};
 use migrate_seq::{Plan, Sequences, Serialized};
 use migrate_steps::{Filter, MigStep, Migration, Sequence};
 use rooms_val::Text;
 use std::alloc::Global;
 use std::test::Fail;
-use test_with_cases::{cells, printed, value};
+use test_with_cases::{cells, val_text, value};
 
 /// The one step of a name.
 fn one_step(alloc: Global, name: &str) -> Result<Vec<MigStep>, Fail> {
@@ -38,38 +38,38 @@ fn plan_of_all(alloc: Global, sequences: &Sequences) -> Result<Plan, Fail> {
 }
 
 /// What a record is after all migrations up.
-fn raised(alloc: Global, sequences: &Sequences, text: &str) -> Result<String, Fail> {
+fn after_up(alloc: Global, sequences: &Sequences, text: &str) -> Result<String, Fail> {
     let plan = plan_of_all(alloc, sequences)?;
     if !plan.records_only() {
         return Err(Fail::from("a plan of records was wanted"));
     }
     let after = sequences.up(alloc, &plan, &value(alloc, text)?)?;
-    printed(alloc, &after)
+    val_text(alloc, &after)
 }
 
 /// What a record is after all migrations down.
-fn lowered(alloc: Global, sequences: &Sequences, text: &str) -> Result<String, Fail> {
+fn after_down(alloc: Global, sequences: &Sequences, text: &str) -> Result<String, Fail> {
     let plan = plan_of_all(alloc, sequences)?;
     if !plan.both_ways() {
         return Err(Fail::from("a plan both ways was wanted"));
     }
     let after = sequences.down(alloc, &plan, &value(alloc, text)?)?;
-    printed(alloc, &after)
+    val_text(alloc, &after)
 }
 
 /// The sequence of one step of all records.
-fn stepped(alloc: Global, name: &str) -> Result<Sequences, Fail> {
+fn sequence_of_step(alloc: Global, name: &str) -> Result<Sequences, Fail> {
     let mut migrations = Vec::new(alloc);
     migrations.push(stepping(alloc, "b/1", Filter::All, name)?)?;
-    built(alloc, sequence(alloc, migrations)?)
+    sequences_of(alloc, sequence(alloc, migrations)?)
 }
 
 /// What the record of a row is after its step up, and after its step down.
 pub(crate) fn up_and_down(alloc: Global, row: &str) -> Result<String, Fail> {
     let [name, old, ..] = cells(row);
-    let sequences = stepped(alloc, name)?;
-    let up = raised(alloc, &sequences, old)?;
-    let down = lowered(alloc, &sequences, old)?;
+    let sequences = sequence_of_step(alloc, name)?;
+    let up = after_up(alloc, &sequences, old)?;
+    let down = after_down(alloc, &sequences, old)?;
     Ok(format!(in alloc; "{up} and {down}")?)
 }
 
@@ -87,19 +87,19 @@ fn filtering(alloc: Global, number: u32) -> Result<Migration, Fail> {
 }
 
 /// The sequence of the three steps with filters.
-fn filtered(alloc: Global) -> Result<Sequences, Fail> {
+fn sequence_of_filters(alloc: Global) -> Result<Sequences, Fail> {
     let mut migrations = Vec::new(alloc);
     for number in 0..3 {
         migrations.push(filtering(alloc, number)?)?;
     }
-    built(alloc, sequence(alloc, migrations)?)
+    sequences_of(alloc, sequence(alloc, migrations)?)
 }
 
 /// What a record is after the steps with filters up, if it is as before after them down again.
 pub(crate) fn let_through(alloc: Global, old: &str) -> Result<String, Fail> {
-    let sequences = filtered(alloc)?;
-    let up = raised(alloc, &sequences, old)?;
-    let down = lowered(alloc, &sequences, up.as_str())?;
+    let sequences = sequence_of_filters(alloc)?;
+    let up = after_up(alloc, &sequences, old)?;
+    let down = after_down(alloc, &sequences, up.as_str())?;
     if down.as_str() == old {
         return Ok(up);
     }

@@ -1,6 +1,6 @@
 //! The tables, and how they are played.
-use crate::plans::{missing, refused};
-use crate::sequences::fitted;
+use crate::plans::{missing, refusal_of};
+use crate::sequences::newest_or_fault;
 use crate::steps::{let_through, up_and_down};
 use std::alloc::Global;
 use std::process::Abort;
@@ -127,9 +127,9 @@ fn first_difference(alloc: Global, call: Call, table: &str) -> Result<Option<Str
 /// What a call gives.
 fn answer(alloc: Global, call: Call, given: &str) -> Result<String, Fail> {
     match call {
-        Call::Build => fitted(alloc, given),
+        Call::Build => newest_or_fault(alloc, given),
         Call::Plan => missing(alloc, given),
-        Call::Refuse => refused(alloc, given),
+        Call::Refuse => refusal_of(alloc, given),
         Call::Step => up_and_down(alloc, given),
         Call::Filter => let_through(alloc, given),
     }

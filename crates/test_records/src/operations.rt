@@ -6,7 +6,7 @@ use field_ops::{
 use rooms_val::{Fields, Text, Val};
 use std::alloc::Global;
 use std::test::Fail;
-use test_with_cases::{cells, printed, value};
+use test_with_cases::{cells, val_text, value};
 
 // A record, an operation, and what it makes of the record with what undoes it.
 const CHANGES: &str = r#"
@@ -109,7 +109,7 @@ pub(crate) fn operation(alloc: Global, text: &str) -> Result<RecordOp, Fail> {
 /// The text of an operation that there may be, or `-`.
 fn op_text(alloc: Global, op: Option<&RecordOp>) -> Result<String, Fail> {
     match op {
-        Some(op) => printed(alloc, &op_val(alloc, op)?),
+        Some(op) => val_text(alloc, &op_val(alloc, op)?),
         None => Ok(String::from_str(alloc, "-")?),
     }
 }
@@ -117,7 +117,7 @@ fn op_text(alloc: Global, op: Option<&RecordOp>) -> Result<String, Fail> {
 /// The text of a record that there may be, or `-`.
 fn record_text(alloc: Global, val: Option<&Val>) -> Result<String, Fail> {
     match val {
-        Some(val) => printed(alloc, val),
+        Some(val) => val_text(alloc, val),
         None => Ok(String::from_str(alloc, "-")?),
     }
 }
@@ -143,7 +143,7 @@ fn undo_text(alloc: Global, before: Option<&Val>, op: &RecordOp) -> Result<Strin
 }
 
 /// What the operation of a row makes of its record, and what undoes it.
-pub(crate) fn changed(alloc: Global, row: &str) -> Result<String, Fail> {
+pub(crate) fn change_text(alloc: Global, row: &str) -> Result<String, Fail> {
     let [old, op, ..] = cells(row);
     let before = record_of(alloc, old)?;
     let op = operation(alloc, op)?.copy(alloc)?;
@@ -197,8 +197,8 @@ pub(crate) fn many_text(alloc: Global, count: &str) -> Result<String, Fail> {
     let val = many_val(alloc, count.parse::<u32>()?)?;
     let diff = read_diff(alloc, &val)?.copy(alloc)?;
     let length = format!(in alloc; "{}", diff.len())?;
-    let shown = printed(alloc, &diff_val(alloc, &diff)?)?;
-    let wanted = printed(alloc, &val)?;
+    let shown = val_text(alloc, &diff_val(alloc, &diff)?)?;
+    let wanted = val_text(alloc, &val)?;
     if length.as_str() == count && shown.as_str() == wanted.as_str() {
         return Ok(String::from_str(alloc, "=")?);
     }

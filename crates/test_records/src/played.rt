@@ -1,8 +1,8 @@
 //! The playing of tables.
 use crate::checks::fault_after;
-use crate::operations::{both, changed, many_text, read_text};
-use crate::schemas::{admitted, doubled, id_text, patched_text, weight_text};
-use crate::versions::{board_raised, migrated, newest, returned, since};
+use crate::operations::{both, change_text, many_text, read_text};
+use crate::schemas::{doubled_name, id_text, patched_text, records_difference, weight_text};
+use crate::versions::{board_raised, lower_and_raise, migrate_row, newest, since};
 use std::alloc::Global;
 use std::process::Abort;
 use std::test::Fail;
@@ -66,19 +66,19 @@ fn difference_in(alloc: Global, call: Call, table: &str) -> Result<Option<String
 /// What a call gives.
 fn answer(alloc: Global, call: Call, given: &str) -> Result<String, Fail> {
     match call {
-        Call::Change => changed(alloc, given),
+        Call::Change => change_text(alloc, given),
         Call::Both => both(alloc, given),
         Call::Operation => read_text(alloc, given),
         Call::Many => many_text(alloc, given),
         Call::Fit => fault_after(alloc, given),
-        Call::Admit => admitted(alloc, given),
+        Call::Admit => records_difference(alloc, given),
         Call::Patch => patched_text(alloc, given),
         Call::Id => id_text(alloc, given),
         Call::Weight => weight_text(alloc, given),
-        Call::Types => doubled(alloc, given),
+        Call::Types => doubled_name(alloc, given),
         Call::Newest => newest(alloc, given),
-        Call::Migrate => migrated(alloc, given),
-        Call::Round => returned(alloc, given),
+        Call::Migrate => migrate_row(alloc, given),
+        Call::Round => lower_and_raise(alloc, given),
         Call::Board => board_raised(alloc, given),
         Call::Since => since(alloc, given),
     }

@@ -166,7 +166,7 @@ pub(crate) fn schema_of(alloc: Global, version: &str) -> Result<Schema, Fail> {
 }
 
 /// What a schema answers, in words.
-fn told(alloc: Global, answer: Result<Scope, RecordFault>) -> Result<String, Fail> {
+fn answer_text(alloc: Global, answer: Result<Scope, RecordFault>) -> Result<String, Fail> {
     match answer {
         Ok(scope) => Ok(format!(in alloc; "{scope:?}")?),
         Err(RecordFault::Rejected(Reject { depth, kind })) => {
@@ -178,7 +178,7 @@ fn told(alloc: Global, answer: Result<Scope, RecordFault>) -> Result<String, Fai
 
 /// What a schema answers of a record, in words.
 fn admits_text(alloc: Global, schema: &Schema, id: &str, val: &Val) -> Result<String, Fail> {
-    told(alloc, schema.admits(id, val))
+    answer_text(alloc, schema.admits(id, val))
 }
 
 /// Whether a schema admits a record with the scope of its id.
@@ -206,7 +206,7 @@ fn admits_row(alloc: Global, schema: &Schema, version: &str, row: &str) -> Resul
 }
 
 /// The first row of the table of records with another answer of the schema of a version, or `=`.
-pub(crate) fn admitted(alloc: Global, version: &str) -> Result<String, Fail> {
+pub(crate) fn records_difference(alloc: Global, version: &str) -> Result<String, Fail> {
     let schema = match schema_at(alloc, version.parse::<u32>()?) {
         Ok(schema) => schema,
         Err(TableFault::NoSuchVersion) => return Ok(String::from_str(alloc, "NoSuchVersion")?),
@@ -227,7 +227,7 @@ fn patch_op(alloc: Global, patch: &str) -> Result<RecordOp, Fail> {
 }
 
 /// A copy of a record that an operation has changed.
-fn changed(alloc: Global, val: &Val, op: &RecordOp) -> Result<Val, Fail> {
+fn record_after(alloc: Global, val: &Val, op: &RecordOp) -> Result<Val, Fail> {
     match apply_record(alloc, Some(val), op)? {
         Some(after) => Ok(after),
         None => Err(Fail::from("a record was wanted")),
@@ -235,10 +235,10 @@ fn changed(alloc: Global, val: &Val, op: &RecordOp) -> Result<Val, Fail> {
 }
 
 /// The record of an id at a version, as a patch changes it.
-pub(crate) fn patched(alloc: Global, version: &str, id: &str, patch: &str) -> Result<Val, Fail> {
+pub(crate) fn with_patch(alloc: Global, version: &str, id: &str, patch: &str) -> Result<Val, Fail> {
     let op = patch_op(alloc, patch)?;
     let val = record_at(alloc, version, id)?;
-    changed(alloc, &val, &op)
+    record_after(alloc, &val, &op)
 }
 
 /// What a schema answers of a record that a patch has made, if it looks at what the patch names.
@@ -252,13 +252,13 @@ fn by_patch_text(
     let RecordOp::Patch(diff) = patch_op(alloc, patch)? else {
         return Err(Fail::from("a patch was wanted"));
     };
-    told(alloc, schema.admits_patched(id, val, &diff))
+    answer_text(alloc, schema.admits_patched(id, val, &diff))
 }
 
 /// What the schema of a row answers of its patched record, whole and by the patch.
 pub(crate) fn patched_text(alloc: Global, row: &str) -> Result<String, Fail> {
     let [version, id, patch, ..] = cells(row);
-    let val = patched(alloc, version, id, patch)?;
+    let val = with_patch(alloc, version, id, patch)?;
     let schema = schema_of(alloc, version)?;
     let whole = admits_text(alloc, &schema, id, &val)?;
     let part = by_patch_text(alloc, &schema, id, &val, patch)?;
@@ -283,7 +283,7 @@ pub(crate) fn id_text(alloc: Global, id: &str) -> Result<String, Fail> {
 pub(crate) fn weight_text(alloc: Global, row: &str) -> Result<String, Fail> {
     let [length, index, ..] = cells(row);
     let patch = long_patch(alloc, length.parse::<u32>()?, index)?;
-    let page = patched(alloc, "3", "page:p", patch.as_str())?;
+    let page = with_patch(alloc, "3", "page:p", patch.as_str())?;
     let schema = schema_at(alloc, 3)?;
     admits_text(alloc, &schema, "page:p", &page)
 }
@@ -314,7 +314,7 @@ fn types(alloc: Global, names: &str) -> Result<Vec<TypeRow>, Fail> {
 }
 
 /// The name that a schema of some types says to stand twice.
-pub(crate) fn doubled(alloc: Global, names: &str) -> Result<String, Fail> {
+pub(crate) fn doubled_name(alloc: Global, names: &str) -> Result<String, Fail> {
     let made = types(alloc, names)?;
     let sequences = Sequences::build(alloc, Vec::new(alloc))?;
     match Schema::build(alloc, made, sequences) {

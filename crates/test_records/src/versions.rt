@@ -1,11 +1,11 @@
 //! What becomes of a whiteboard's records between its versions.
 use crate::played::{Call, plays};
-use crate::schemas::{patched, schema_of};
+use crate::schemas::{schema_of, with_patch};
 use migrate_seq::{Plan, PlanFault, Sequences, Serialized};
 use rooms_val::Val;
 use std::alloc::Global;
 use std::test::Fail;
-use test_with_cases::{cells, printed, value};
+use test_with_cases::{cells, val_text, value};
 
 // The newest versions of the sequences, for each version of the whiteboard.
 const NEWEST: &str = r#"
@@ -93,7 +93,7 @@ pub(crate) fn newest(alloc: Global, version: &str) -> Result<String, Fail> {
     let schema = schema_of(alloc, version)?;
     let versions = schema.sequences().serialized(alloc)?;
     let val = versions.val(alloc)?;
-    printed(alloc, &val)
+    val_text(alloc, &val)
 }
 
 /// The plan by which records of an older version are raised.
@@ -104,7 +104,7 @@ fn plan_from(alloc: Global, sequences: &Sequences, older: &str) -> Result<Plan, 
 }
 
 /// What a record of an older version is raised to.
-fn raised(alloc: Global, sequences: &Sequences, older: &str, val: &Val) -> Result<Val, Fail> {
+fn raise_record(alloc: Global, sequences: &Sequences, older: &str, val: &Val) -> Result<Val, Fail> {
     let plan = plan_from(alloc, sequences, older)?;
     if !plan.records_only() {
         return Err(Fail::from("a plan of records was wanted"));
@@ -113,7 +113,7 @@ fn raised(alloc: Global, sequences: &Sequences, older: &str, val: &Val) -> Resul
 }
 
 /// What a record is lowered to for an older version.
-fn lowered(alloc: Global, sequences: &Sequences, older: &str, val: &Val) -> Result<Val, Fail> {
+fn lower_record(alloc: Global, sequences: &Sequences, older: &str, val: &Val) -> Result<Val, Fail> {
     let plan = plan_from(alloc, sequences, older)?;
     if !plan.both_ways() {
         return Err(Fail::from("a plan both ways was wanted"));
@@ -123,29 +123,29 @@ fn lowered(alloc: Global, sequences: &Sequences, older: &str, val: &Val) -> Resu
 
 /// Whether two records are written the same.
 fn is_same(alloc: Global, found: &Val, wanted: &Val) -> Result<bool, Fail> {
-    Ok(printed(alloc, found)?.as_str() == printed(alloc, wanted)?.as_str())
+    Ok(val_text(alloc, found)?.as_str() == val_text(alloc, wanted)?.as_str())
 }
 
 /// Whether the record of a row goes up from an older version to a newer one as it is to.
 fn goes_up(alloc: Global, sequences: &Sequences, row: &str) -> Result<bool, Fail> {
     let [versions, id, older, newer] = cells(row);
     let (from, to) = versions.split_once(' ').unwrap_or((versions, versions));
-    let before = patched(alloc, from, id, older)?;
-    let found = raised(alloc, sequences, from, &before)?;
-    is_same(alloc, &found, &patched(alloc, to, id, newer)?)
+    let before = with_patch(alloc, from, id, older)?;
+    let found = raise_record(alloc, sequences, from, &before)?;
+    is_same(alloc, &found, &with_patch(alloc, to, id, newer)?)
 }
 
 /// Whether it comes down so.
 fn comes_down(alloc: Global, sequences: &Sequences, row: &str) -> Result<bool, Fail> {
     let [versions, id, older, newer] = cells(row);
     let (from, to) = versions.split_once(' ').unwrap_or((versions, versions));
-    let after = patched(alloc, to, id, newer)?;
-    let found = lowered(alloc, sequences, from, &after)?;
-    is_same(alloc, &found, &patched(alloc, from, id, older)?)
+    let after = with_patch(alloc, to, id, newer)?;
+    let found = lower_record(alloc, sequences, from, &after)?;
+    is_same(alloc, &found, &with_patch(alloc, from, id, older)?)
 }
 
 /// `=`, if the records of a row become each other.
-pub(crate) fn migrated(alloc: Global, row: &str) -> Result<String, Fail> {
+pub(crate) fn migrate_row(alloc: Global, row: &str) -> Result<String, Fail> {
     let [versions, ..] = cells(row);
     let (_, newer) = versions.split_once(' ').unwrap_or((versions, versions));
     let schema = schema_of(alloc, newer)?;
@@ -159,17 +159,22 @@ pub(crate) fn migrated(alloc: Global, row: &str) -> Result<String, Fail> {
 }
 
 /// `=`, if the record of a row is as it is to be after it was lowered and raised again.
-pub(crate) fn returned(alloc: Global, row: &str) -> Result<String, Fail> {
+pub(crate) fn lower_and_raise(alloc: Global, row: &str) -> Result<String, Fail> {
     let [versions, id, before, after] = cells(row);
     let (newer, older) = versions.split_once(' ').unwrap_or((versions, versions));
     let schema = schema_of(alloc, newer)?;
     let sequences = schema.sequences();
-    let low = lowered(alloc, sequences, older, &patched(alloc, newer, id, before)?)?;
-    let high = raised(alloc, sequences, older, &low)?;
-    if is_same(alloc, &high, &patched(alloc, newer, id, after)?)? {
+    let low = lower_record(
+        alloc,
+        sequences,
+        older,
+        &with_patch(alloc, newer, id, before)?,
+    )?;
+    let high = raise_record(alloc, sequences, older, &low)?;
+    if is_same(alloc, &high, &with_patch(alloc, newer, id, after)?)? {
         return Ok(String::from_str(alloc, "=")?);
     }
-    printed(alloc, &high)
+    val_text(alloc, &high)
 }
 
 /// What the records of a row are raised to together.
@@ -182,7 +187,7 @@ pub(crate) fn board_raised(alloc: Global, row: &str) -> Result<String, Fail> {
         return Err(Fail::from("records by their ids were wanted"));
     };
     let after = schema.sequences().up_map(alloc, &plan, &records)?;
-    printed(alloc, &Val::Map(after))
+    val_text(alloc, &Val::Map(after))
 }
 
 /// The versions of a map that is written as JSON.

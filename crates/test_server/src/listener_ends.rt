@@ -11,7 +11,7 @@ use std::net::{Net, SocketAddr, TcpStream};
 use std::sync::Wait;
 use std::test::Fail;
 use std::thread::{Threads, join};
-use test_with_served::spelled;
+use test_with_served::spell_out;
 use tungstenite::handshake::client::{request_of, start};
 use tungstenite::{MaskKeys, Message, WebSocket};
 
@@ -34,7 +34,7 @@ fn ask<S: Read + Write + Drop>(
     socket: &mut WebSocket<S, OneKey>,
     says: &str,
 ) -> Result<String, Fail> {
-    for word in spelled(alloc, says)?.as_str().split_whitespace() {
+    for word in spell_out(alloc, says)?.as_str().split_whitespace() {
         socket.send(Message::text(alloc, word)?)?;
     }
     let answer = socket.read()?;

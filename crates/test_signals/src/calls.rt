@@ -29,7 +29,10 @@ pub(crate) fn key(text: &str) -> Result<u64, Fail> {
 }
 
 // What a call of `watch` gave: the number, or that there are too many.
-pub(crate) fn watched(alloc: Global, given: Result<WatchId, WatchFault>) -> Result<String, Fail> {
+pub(crate) fn watch_text(
+    alloc: Global,
+    given: Result<WatchId, WatchFault>,
+) -> Result<String, Fail> {
     match given {
         Ok(id) => Ok(format!(in alloc; "{}", id.number)?),
         Err(WatchFault::Full) => Ok(format!(in alloc; "full")?),
@@ -103,9 +106,9 @@ impl<L: Ledger> Board<L> {
     // Watches a key so often, and gives the last number.
     fn watch_often(&mut self, alloc: Global, key: u64, count: u16) -> Result<String, Fail> {
         for _ in 1..count {
-            drop(watched(alloc, self.graph.watch(key))?);
+            drop(watch_text(alloc, self.graph.watch(key))?);
         }
-        watched(alloc, self.graph.watch(key))
+        watch_text(alloc, self.graph.watch(key))
     }
 
     fn unwatch(&mut self, alloc: Global, number: u32) -> Result<String, Fail> {
@@ -138,7 +141,7 @@ impl<L: Ledger> Board<L> {
         due_text(alloc, &due, self.asks_since(before))
     }
 
-    fn changed(&self, alloc: Global, key: u64) -> Result<String, Fail> {
+    fn epoch_of_change(&self, alloc: Global, key: u64) -> Result<String, Fail> {
         match self.graph.changed_at(&key) {
             Some(epoch) => Ok(format!(in alloc; "{epoch}")?),
             None => Ok(format!(in alloc; "none")?),
@@ -161,7 +164,7 @@ impl<L: Ledger> Board<L> {
             "due" => self.due(alloc),
             "news" => self.news(alloc),
             "tell" => self.tell(alloc),
-            "changed" => self.changed(alloc, key(first)?),
+            "changed" => self.epoch_of_change(alloc, key(first)?),
             _ => Ok(format!(in alloc; "no such call")?),
         }
     }

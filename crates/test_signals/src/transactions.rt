@@ -1,7 +1,7 @@
 //! Calls of a graph with transactions by their texts, and what they give as a text.
 ghost use Rattle.std.specs.Prelude.{◌≡◌, ◌<◌};
 
-use crate::calls::{due_text, key, watched};
+use crate::calls::{due_text, key, watch_text};
 use crate::rules::{NumberRules, rank};
 use rooms_val::{OutOfMemory, Steps};
 use signal_txn::{Since, Txn, TxnFault};
@@ -70,7 +70,7 @@ impl<L: Ledger> Nest<L> {
     }
 
     // The same of a copy of the value.
-    fn copied(&mut self, alloc: Global, key: u64) -> Result<String, Fail> {
+    fn get_copy(&mut self, alloc: Global, key: u64) -> Result<String, Fail> {
         let before = self.asked.get();
         let value = self.txn.copied(alloc, &key, &mut self.steps)?;
         Ok(format!(in alloc; "{value} after {}", self.asks_since(before))?)
@@ -130,7 +130,7 @@ impl<L: Ledger> Nest<L> {
     }
 
     // The epoch at which the value of a key last changed.
-    fn changed(&self, alloc: Global, key: u64) -> Result<String, Fail> {
+    fn epoch_of_change(&self, alloc: Global, key: u64) -> Result<String, Fail> {
         match self.txn.changed_at(&key) {
             Some(epoch) => Ok(format!(in alloc; "{epoch}")?),
             None => Ok(format!(in alloc; "none")?),
@@ -168,15 +168,15 @@ impl<L: Ledger> Nest<L> {
             "set" => self.set(alloc, first.parse()?, second.parse()?),
             "set_each" => self.set_each(alloc, first.parse()?, second.parse()?),
             "get" => self.get(alloc, key(first)?),
-            "copied" => self.copied(alloc, key(first)?),
-            "watch" => watched(alloc, self.txn.watch(key(first)?)),
+            "copied" => self.get_copy(alloc, key(first)?),
+            "watch" => watch_text(alloc, self.txn.watch(key(first)?)),
             "due" => self.due(alloc),
             "tell" => self.tell(alloc),
             "begin" => self.begin(alloc),
             "begin_often" => self.begin_often(alloc, first.parse()?),
             "commit" => self.commit(alloc),
             "abort" => self.abort(alloc),
-            "changed" => self.changed(alloc, first.parse()?),
+            "changed" => self.epoch_of_change(alloc, first.parse()?),
             "since" => self.since(alloc, first.parse()?),
             "count_since" => self.count_since(alloc, first.parse()?),
             "epoch" => Ok(format!(in alloc; "{}", self.txn.epoch())?),

@@ -63,7 +63,7 @@ pub(crate) fn cut_text(alloc: Global, most: usize) -> Result<String, Fail> {
 }
 
 // The line with blanks after it, so many bytes in all.
-fn padded(alloc: Global, len: usize) -> Result<Vec<u8>, Fail> {
+fn line_of_length(alloc: Global, len: usize) -> Result<Vec<u8>, Fail> {
     let mut bytes = Vec::with_capacity(alloc, len)?;
     bytes.extend_from_slice(LINE.as_bytes())?;
     bytes.resize(len, b' ')?;
@@ -82,7 +82,7 @@ fn takes_no_line_that_is_cut(rt: HostRuntime) -> Result<(), Fail> {
 
 #[test]
 fn refuses_a_line_of_a_byte_more(rt: HostRuntime) -> Result<(), Fail> {
-    let bytes = padded(rt.alloc(), LONGEST_LINE + 1)?;
+    let bytes = line_of_length(rt.alloc(), LONGEST_LINE + 1)?;
     assert_eq!(rt; name_of(rt.alloc(), &bytes), "LineTooLong");
     Ok(())
 }

@@ -41,12 +41,12 @@ pub(crate) fn raised_text(alloc: Global, version: u32, text: &str) -> Result<Str
     }
     match bad_id(alloc, &snapshot.saved)? {
         Some(_) => Err(Fail::from("records with ids of their own were wanted")),
-        None => raised(alloc, &schema, snapshot),
+        None => text_after_raise(alloc, &schema, snapshot),
     }
 }
 
 // The same of a snapshot whose records have ids of their own.
-fn raised(alloc: Global, schema: &Schema, snapshot: Snapshot) -> Result<String, Fail>
+fn text_after_raise(alloc: Global, schema: &Schema, snapshot: Snapshot) -> Result<String, Fail>
     requires clock { snapshot.saved.clock <ℤ pos (2 ^ 53) }
     requires ids { HaveIds (records_of (saved_tree snapshot.saved).documents) }
 {

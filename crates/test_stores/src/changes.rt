@@ -32,7 +32,7 @@ fn since(alloc: Global, list: &ChangeList, clock: i64) -> Mem<Vec<Change>> {
 }
 
 // The changes after a clock, each as its id, whether it is live, and its clock.
-fn told(alloc: Global, list: &ChangeList, clock: i64) -> Result<String, Fail> {
+fn changes_text(alloc: Global, list: &ChangeList, clock: i64) -> Result<String, Fail> {
     let mut text = String::new(alloc);
     for change in &since(alloc, list, clock)? {
         let state = if change.live { "live" } else { "dead" };
@@ -122,9 +122,9 @@ const TELLINGS: [Telling; 4] = [
 // What is told of one of the lists since a clock.
 fn told_of(alloc: Global, again: bool, clock: i64) -> Result<String, Fail> {
     if again {
-        return told(alloc, &touched_again(alloc)?, clock);
+        return changes_text(alloc, &touched_again(alloc)?, clock);
     }
-    told(alloc, &two_touched_and_one_buried(alloc)?, clock)
+    changes_text(alloc, &two_touched_and_one_buried(alloc)?, clock)
 }
 
 // Asserts what is told.

@@ -9,7 +9,7 @@ use field_ops::diff_val;
 use rooms_val::{Fields, Text, Val};
 use std::alloc::Global;
 use std::test::Fail;
-use test_with_cases::{printed, value};
+use test_with_cases::{val_text, value};
 
 // A document, the ids that are copied, the document of the paste (the first one where it is null), the prefix, the parent,
 // and how far the tops are moved; and the diff, or the fault.
@@ -47,7 +47,7 @@ pub(crate) fn paste_text(alloc: Global, text: &str) -> Result<String, Fail> {
     let of = map_under(alloc, &case, "of")?;
     let ids = ids_under(alloc, &case, "ids")?;
     match Clip::take(alloc, &of, &ids) {
-        Ok(clip) => pasted(alloc, &clip, &case, &of),
+        Ok(clip) => paste_clip(alloc, &clip, &case, &of),
         Err(ClipFault::NoShape(id)) => Ok(format!(in alloc; "NoShape {}", id.as_str())?),
         Err(ClipFault::Doubled(id)) => Ok(format!(in alloc; "Doubled {}", id.as_str())?),
         Err(fault) => Ok(format!(in alloc; "{fault:?}")?),
@@ -55,7 +55,7 @@ pub(crate) fn paste_text(alloc: Global, text: &str) -> Result<String, Fail> {
 }
 
 // What a clip is pasted to.
-fn pasted(alloc: Global, clip: &Clip, case: &Val, of: &Fields) -> Result<String, Fail> {
+fn paste_clip(alloc: Global, clip: &Clip, case: &Val, of: &Fields) -> Result<String, Fail> {
     let other = map_under(alloc, case, "to")?;
     let to = if case.get("to").and_then(|to| to.as_map()).is_some() {
         &other
@@ -73,7 +73,7 @@ fn pasted(alloc: Global, clip: &Clip, case: &Val, of: &Fields) -> Result<String,
         step(case, "dy"),
     );
     match found {
-        Ok(diff) => printed(alloc, &diff_val(alloc, &diff)?),
+        Ok(diff) => val_text(alloc, &diff_val(alloc, &diff)?),
         Err(PasteFault::Taken(id)) => Ok(format!(in alloc; "Taken {}", id.as_str())?),
         Err(PasteFault::NoKey(fault)) => Ok(format!(in alloc; "NoKey {fault:?}")?),
         Err(fault) => Ok(format!(in alloc; "{fault:?}")?),

@@ -8,7 +8,7 @@ use schema_core::{RecordFault, Schema};
 use side_effects::{EditFault, complete};
 use std::alloc::Global;
 use std::test::Fail;
-use test_with_cases::{printed, value};
+use test_with_cases::{val_text, value};
 
 // An edit of two assets, and the answer: the fault by the first rule, with the least id, or the edit.
 const EDITS: &str = r#"
@@ -49,12 +49,12 @@ pub(crate) fn removes_text(alloc: Global, count: &str) -> Result<String, Fail> {
 // What an edit is completed to, or the name of the fault with its id.
 fn answer(alloc: Global, schema: &Schema, store: &MapDoc, edit: &Diff) -> Result<String, Fail> {
     match complete(alloc, schema, store, edit) {
-        Ok(made) => printed(alloc, &diff_val(alloc, &made)?),
-        Err(fault) => told(alloc, &fault),
+        Ok(made) => val_text(alloc, &diff_val(alloc, &made)?),
+        Err(fault) => fault_text(alloc, &fault),
     }
 }
 
-fn told(alloc: Global, fault: &EditFault) -> Result<String, Fail> {
+fn fault_text(alloc: Global, fault: &EditFault) -> Result<String, Fail> {
     Ok(match fault {
         EditFault::TooMany => String::from_str(alloc, "TooMany")?,
         EditFault::WrongScope(id) => format!(in alloc; "WrongScope {}", id.as_str())?,

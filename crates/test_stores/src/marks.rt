@@ -124,7 +124,7 @@ fn after(
 }
 
 // What is said of a step, and the number after it.
-fn said(alloc: Global, marks: &mut Marks, step: &str, number: &mut i64) -> Result<String, Fail> {
+fn do_step(alloc: Global, marks: &mut Marks, step: &str, number: &mut i64) -> Result<String, Fail> {
     match after(alloc, marks, step, *number)? {
         Ok(next) => {
             *number = next;
@@ -140,7 +140,7 @@ fn first_difference(alloc: Global, table: &str) -> Result<Option<String>, Fail> 
     let mut number = 0;
     for row in &rows(alloc, table)? {
         let [step, wanted, ..] = cells(row);
-        let found = said(alloc, &mut marks, step, &mut number)?;
+        let found = do_step(alloc, &mut marks, step, &mut number)?;
         if found.as_str() != wanted {
             return Ok(Some(format!(in alloc; "at {step}: {found}, and not {wanted}")?));
         }

@@ -103,7 +103,7 @@ fn rect_text(alloc: Global, found: Option<Rect>) -> Result<String, Fail> {
 }
 
 // Ids, parted by blanks, or `.` for none.
-fn listed(alloc: Global, ids: &[Text]) -> Result<String, Fail> {
+fn ids_text(alloc: Global, ids: &[Text]) -> Result<String, Fail> {
     let mut text = String::new(alloc);
     for id in ids {
         if !text.is_empty() {
@@ -202,8 +202,8 @@ pub(crate) fn tree_text(alloc: Global, text: &str) -> Result<String, Fail> {
     let (parent, records) = halves(text);
     let parent = if parent == "-" { "" } else { parent };
     let records = vals(alloc, records)?;
-    let ids = listed(alloc, &children(alloc, records.as_slice(), parent)?)?;
-    let below = listed(alloc, &tree(alloc, records.as_slice(), parent)?)?;
+    let ids = ids_text(alloc, &children(alloc, records.as_slice(), parent)?)?;
+    let below = ids_text(alloc, &tree(alloc, records.as_slice(), parent)?)?;
     Ok(format!(in alloc; "{ids}; {below}")?)
 }
 

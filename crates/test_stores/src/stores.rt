@@ -12,7 +12,7 @@ use std::alloc::Global;
 use std::marker::Brand;
 use std::sync::ledger::{Blank, Ledger};
 use std::test::Fail;
-use test_with_cases::{printed, value};
+use test_with_cases::{val_text, value};
 
 // A type whose records have an `id`, a `typeName` and a number `x` from 0 to 100.
 fn row(alloc: Global, name: &str, scope: Scope) -> Result<TypeRow, Fail> {
@@ -45,14 +45,14 @@ pub(crate) fn diff(alloc: Global, text: &str) -> Result<Diff, Fail> {
 // A store with two shapes.
 fn two_shapes(alloc: Global, schema: &Schema) -> Result<MapDoc, Fail> {
     let mut store = MapDoc::new(alloc);
-    drop(applied(alloc, &mut store, schema, &diff(alloc, BOTH)?)?);
+    drop(apply_twice(alloc, &mut store, schema, &diff(alloc, BOTH)?)?);
     Ok(store)
 }
 
 // A store with two assets.
 pub(crate) fn two_assets(alloc: Global, schema: &Schema) -> Result<MapDoc, Fail> {
     let mut store = MapDoc::new(alloc);
-    drop(applied(alloc, &mut store, schema, &diff(alloc, ASSETS)?)?);
+    drop(apply_twice(alloc, &mut store, schema, &diff(alloc, ASSETS)?)?);
     Ok(store)
 }
 
@@ -63,7 +63,7 @@ const BOTH: &str =
     r#"{"shape:1":["put",{"id":"shape:1","typeName":"shape","x":1}],"shape:2":["put",{"id":"shape:2","typeName":"shape","x":2}]}"#;
 
 // Which records a store has, each as its id and its `x`.
-fn held(alloc: Global, store: &MapDoc) -> Result<String, Fail> {
+fn store_text(alloc: Global, store: &MapDoc) -> Result<String, Fail> {
     let mut text = String::new(alloc);
     for id in &store.ids(alloc)? {
         if let Some(record) = store.get(id.as_str()) {
@@ -76,13 +76,13 @@ fn held(alloc: Global, store: &MapDoc) -> Result<String, Fail> {
 // Adds an id and the `x` of its record.
 fn add(alloc: Global, text: &mut String, id: &str, record: &Val) -> Result<(), Fail> {
     if let Some(x) = record.get("x") {
-        let part = format!(in alloc; "{id} {};", printed(alloc, x)?)?;
+        let part = format!(in alloc; "{id} {};", val_text(alloc, x)?)?;
         text.push_str(part.as_str())?;
     }
     Ok(())
 }
 
-fn applied_in<L: Ledger>(
+fn apply_twice_in<L: Ledger>(
     blank: Blank,
     alloc: Global,
     store: &mut MapDoc,
@@ -101,7 +101,7 @@ fn applied_in<L: Ledger>(
 }
 
 // Applies a diff and what undoes it, and then the diff again. The steps are counted for nobody.
-fn applied(
+fn apply_twice(
     alloc: Global,
     store: &mut MapDoc,
     schema: &Schema,
@@ -109,7 +109,7 @@ fn applied(
 ) -> Result<Diff, TxnFault>
     ensures { store.new.1 ≡ store.old.1 }
 {
-    applied_in::<Brand>(Blank::new(1), alloc, store, schema, diff)
+    apply_twice_in::<Brand>(Blank::new(1), alloc, store, schema, diff)
 }
 
 // A diff, what it leaves of two shapes, and the diff that undoes it.
@@ -137,9 +137,9 @@ const NESTED: &str = r#"
 pub(crate) fn applied_text(alloc: Global, text: &str) -> Result<String, Fail> {
     let schema = schema(alloc)?;
     let mut store = two_shapes(alloc, &schema)?;
-    let undo = applied(alloc, &mut store, &schema, &diff(alloc, text)?)?;
-    let left = held(alloc, &store)?;
-    let undo = printed(alloc, &diff_val(alloc, &undo)?)?;
+    let undo = apply_twice(alloc, &mut store, &schema, &diff(alloc, text)?)?;
+    let left = store_text(alloc, &store)?;
+    let undo = val_text(alloc, &diff_val(alloc, &undo)?)?;
     Ok(format!(in alloc; "{left} {undo}")?)
 }
 
@@ -149,10 +149,10 @@ pub(crate) fn aborted_text(alloc: Global, text: &str) -> Result<String, Fail> {
     let mut store = two_shapes(alloc, &schema)?;
     let diff = diff(alloc, text)?;
     store.begin()?;
-    drop(applied(alloc, &mut store, &schema, &diff)?);
-    let left = held(alloc, &store)?;
+    drop(apply_twice(alloc, &mut store, &schema, &diff)?);
+    let left = store_text(alloc, &store)?;
     store.abort();
-    let after = held(alloc, &store)?;
+    let after = store_text(alloc, &store)?;
     Ok(format!(in alloc; "{left} {after}")?)
 }
 

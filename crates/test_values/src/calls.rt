@@ -1,9 +1,9 @@
 //! What the calls on values, lists, maps and texts answer where memory is ample.
-use crate::played::{Call, plays, repeated};
+use crate::played::{Call, plays, text_of_parts};
 use rooms_val::{Fields, Text, Val, Vals};
 use std::alloc::Global;
 use std::test::Fail;
-use test_with_cases::{printed, value};
+use test_with_cases::{val_text, value};
 
 // A value, its kind, and what it weighs: the bytes of a text count, and not its characters or its escapes.
 const WEIGHTS: &str = r#"
@@ -171,10 +171,10 @@ fn values_are_changed_and_copied(rt: HostRuntime) -> Result<(), Fail> {
 }
 
 /// The kind of a value and the weight of its copy, if the copy is printed as the value was.
-pub(crate) fn copied(alloc: Global, text: &str) -> Result<String, Fail> {
+pub(crate) fn weigh_copy(alloc: Global, text: &str) -> Result<String, Fail> {
     let val = value(alloc, text)?;
     let copy = val.copy(alloc)?;
-    let shown = printed(alloc, &copy)?;
+    let shown = val_text(alloc, &copy)?;
     if shown.as_str() != text {
         return Ok(shown);
     }
@@ -182,8 +182,8 @@ pub(crate) fn copied(alloc: Global, text: &str) -> Result<String, Fail> {
 }
 
 /// Whether a text and its copy have the characters of which they were made, the copy also without the text.
-pub(crate) fn kept(alloc: Global, parts: &str) -> Result<String, Fail> {
-    let wanted = repeated(alloc, parts)?;
+pub(crate) fn keep_text(alloc: Global, parts: &str) -> Result<String, Fail> {
+    let wanted = text_of_parts(alloc, parts)?;
     let text = Text::of(alloc, wanted.as_str())?;
     let copy = text.copy(alloc)?;
     let is_kept = text.as_str() == wanted.as_str();

@@ -1,5 +1,5 @@
 //! Which texts are index keys, the fault that is named of the others, and the keys between two.
-use crate::played::{Call, plays, repeated};
+use crate::played::{Call, plays, text_of_parts};
 use index_keys::{between, check, several};
 use std::alloc::Global;
 use std::test::Fail;
@@ -175,7 +175,7 @@ fn keys_are_told_and_found_between_two(rt: HostRuntime) -> Result<(), Fail> {
 }
 
 /// Whether a text is a key.
-pub(crate) fn checked(alloc: Global, text: &str) -> Result<String, Fail> {
+pub(crate) fn check_key(alloc: Global, text: &str) -> Result<String, Fail> {
     Ok(format!(in alloc; "{:?}", check(text))?)
 }
 
@@ -187,7 +187,7 @@ fn end(cell: &str) -> Option<&str> {
 /// The key between the ends that a row names.
 pub(crate) fn one_between(alloc: Global, row: &str) -> Result<String, Fail> {
     let [below, above, ..] = cells(row);
-    let below = repeated(alloc, below)?;
+    let below = text_of_parts(alloc, below)?;
     let found = between(alloc, end(below.as_str()), end(above));
     Ok(format!(in alloc; "{found:?}")?)
 }
@@ -202,8 +202,8 @@ pub(crate) fn several_between(alloc: Global, row: &str) -> Result<String, Fail> 
 /// What stands above the last key of a head and below the first of the next: `=`, if that is the other of the two.
 pub(crate) fn beside_heads(alloc: Global, row: &str) -> Result<String, Fail> {
     let [last, first, ..] = cells(row);
-    let last = repeated(alloc, last)?;
-    let first = repeated(alloc, first)?;
+    let last = text_of_parts(alloc, last)?;
+    let first = text_of_parts(alloc, first)?;
     let up = between(alloc, Some(last.as_str()), None)?;
     let down = between(alloc, None, Some(first.as_str()))?;
     if up.as_str() == first.as_str() && down.as_str() == last.as_str() {
@@ -213,7 +213,7 @@ pub(crate) fn beside_heads(alloc: Global, row: &str) -> Result<String, Fail> {
 }
 
 /// How the keys lie that are put where a row says.
-pub(crate) fn placed(alloc: Global, row: &str) -> Result<String, Fail> {
+pub(crate) fn order_of_keys(alloc: Global, row: &str) -> Result<String, Fail> {
     let [below, above, place, ..] = cells(row);
     let told = match place {
         "up" if rises(alloc, end(below), end(above))? => "300 rise",

@@ -1,6 +1,6 @@
 //! The playing of tables.
-use crate::calls::{copied, kept};
-use crate::keys::{beside_heads, checked, one_between, placed, several_between};
+use crate::calls::{keep_text, weigh_copy};
+use crate::keys::{beside_heads, check_key, one_between, order_of_keys, several_between};
 use crate::scripts::script_difference;
 use crate::values::{read_repeated, read_text};
 use std::alloc::Global;
@@ -72,21 +72,21 @@ pub(crate) fn differs(
 // What a call gives.
 fn answer(alloc: Global, call: Call, given: &str) -> Result<String, Fail> {
     match call {
-        Call::Check => checked(alloc, given),
+        Call::Check => check_key(alloc, given),
         Call::Between => one_between(alloc, given),
         Call::Several => several_between(alloc, given),
         Call::Heads => beside_heads(alloc, given),
-        Call::Places => placed(alloc, given),
+        Call::Places => order_of_keys(alloc, given),
         Call::Read => read_text(alloc, given.as_bytes()),
         Call::ReadRepeated => read_repeated(alloc, given),
-        Call::Copy => copied(alloc, given),
-        Call::Keep => kept(alloc, given),
+        Call::Copy => weigh_copy(alloc, given),
+        Call::Keep => keep_text(alloc, given),
         Call::Script => Err(Fail::from("a script was not wanted")),
     }
 }
 
 /// The text of parts that blanks part, where `n*` stands before a part that is there n times.
-pub(crate) fn repeated(alloc: Global, parts: &str) -> Result<String, Fail> {
+pub(crate) fn text_of_parts(alloc: Global, parts: &str) -> Result<String, Fail> {
     let mut text = String::new(alloc);
     for part in parts.split(' ') {
         add_repeated(&mut text, part)?;

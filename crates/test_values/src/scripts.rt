@@ -13,7 +13,7 @@ use rooms_val::{Fields, Text, Val, Vals};
 use std::alloc::Global;
 use std::mem::{replace, swap};
 use std::test::Fail;
-use test_with_cases::{cells, printed, rows, value};
+use test_with_cases::{cells, rows, val_text, value};
 
 /// The first step of a script that gives something else, with what it gives.
 pub(crate) fn script_difference(alloc: Global, table: &str) -> Result<Option<String>, Fail> {
@@ -46,32 +46,32 @@ fn answer(alloc: Global, now: &mut Val, copies: &mut Vec<Val>, step: &str) -> Re
         "into_vec" => into_vec(alloc, now),
         "copy" => copy(alloc, now, copies),
         "turn" => turn(alloc, now, copies, rest),
-        _ => looked(alloc, now, word, rest),
+        _ => look(alloc, now, word, rest),
     }
 }
 
 // What a step gives that only looks.
-fn looked(alloc: Global, now: &Val, word: &str, rest: &str) -> Result<String, Fail> {
+fn look(alloc: Global, now: &Val, word: &str, rest: &str) -> Result<String, Fail> {
     match (word, now) {
-        ("get", Val::Map(fields)) => shown(alloc, fields.get(rest)),
-        ("of", _) => shown(alloc, now.get(rest)),
-        ("at", Val::List(items)) => shown(alloc, items.at(rest.parse::<usize>()?)),
-        ("show", _) => printed(alloc, now),
+        ("get", Val::Map(fields)) => text_of(alloc, fields.get(rest)),
+        ("of", _) => text_of(alloc, now.get(rest)),
+        ("at", Val::List(items)) => text_of(alloc, items.at(rest.parse::<usize>()?)),
+        ("show", _) => val_text(alloc, now),
         _ => Err(Fail::from("no step of a script")),
     }
 }
 
 // What is printed of a value that there may be, or `-`.
-fn shown(alloc: Global, val: Option<&Val>) -> Result<String, Fail> {
+fn text_of(alloc: Global, val: Option<&Val>) -> Result<String, Fail> {
     match val {
-        Some(val) => printed(alloc, val),
+        Some(val) => val_text(alloc, val),
         None => Ok(String::from_str(alloc, "-")?),
     }
 }
 
 fn begin(alloc: Global, now: &mut Val, val: Val) -> Result<String, Fail> {
     *now = val;
-    printed(alloc, now)
+    val_text(alloc, now)
 }
 
 fn put(alloc: Global, now: &mut Val, rest: &str) -> Result<String, Fail> {
@@ -81,7 +81,7 @@ fn put(alloc: Global, now: &mut Val, rest: &str) -> Result<String, Fail> {
         return Err(Fail::from("a map was wanted"));
     };
     let old = fields.put(Text::of(alloc, key)?, value(alloc, text)?)?;
-    shown(alloc, old.as_ref())
+    text_of(alloc, old.as_ref())
 }
 
 fn take(alloc: Global, now: &mut Val, key: &str) -> Result<String, Fail> {
@@ -89,7 +89,7 @@ fn take(alloc: Global, now: &mut Val, key: &str) -> Result<String, Fail> {
         return Err(Fail::from("a map was wanted"));
     };
     let old = fields.take(key)?;
-    shown(alloc, old.as_ref())
+    text_of(alloc, old.as_ref())
 }
 
 fn push(alloc: Global, now: &mut Val, text: &str) -> Result<String, Fail> {

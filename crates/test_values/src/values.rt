@@ -1,9 +1,9 @@
 //! What bytes are read as: the value, told by the compact text that is printed of it, or the first fault.
-use crate::played::{Call, plays, repeated};
+use crate::played::{Call, plays, text_of_parts};
 use rooms_val::Val;
 use std::alloc::Global;
 use std::test::Fail;
-use test_with_cases::printed;
+use test_with_cases::val_text;
 
 // In each row a text and what is printed of its value, where `=` stands for the text, or the fault's name.
 const NUMBERS: &str = r#"
@@ -169,7 +169,7 @@ fn values_are_read_or_the_first_fault_is_named(rt: HostRuntime) -> Result<(), Fa
 /// What bytes are read as: what is printed of the value, or `=` for the bytes themselves, or the fault's name.
 pub(crate) fn read_text(alloc: Global, bytes: &[u8]) -> Result<String, Fail> {
     let answer = match Val::read(alloc, bytes) {
-        Ok(val) => printed(alloc, &val)?,
+        Ok(val) => val_text(alloc, &val)?,
         Err(fault) => format!(in alloc; "{fault:?}")?,
     };
     if answer.as_bytes() == bytes {
@@ -180,6 +180,6 @@ pub(crate) fn read_text(alloc: Global, bytes: &[u8]) -> Result<String, Fail> {
 
 /// What a text of parts is read as.
 pub(crate) fn read_repeated(alloc: Global, parts: &str) -> Result<String, Fail> {
-    let text = repeated(alloc, parts)?;
+    let text = text_of_parts(alloc, parts)?;
     read_text(alloc, text.as_bytes())
 }

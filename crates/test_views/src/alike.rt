@@ -1,5 +1,5 @@
 //! The store on signals beside the plain one.
-use crate::drawn::drawn;
+use crate::drawn::draw_script;
 use std::alloc::Global;
 use std::process::Abort;
 use std::test::Fail;
@@ -39,7 +39,7 @@ const DRAWINGS: [Drawing; 2] = [
 // Asserts that the stores are alike after calls that are drawn.
 fn alike_by(rt: &impl Abort, alloc: Global, table: &[Drawing]) -> Result<(), Fail> {
     for row in table {
-        let script = drawn(alloc, row.first, row.count, row.looks)?;
+        let script = draw_script(alloc, row.first, row.count, row.looks)?;
         alike(rt, alloc, script.as_str())?;
     }
     Ok(())
@@ -83,7 +83,7 @@ const LENGTHS: [u32; 5] = [0, 1, 128, 129, 260];
 // Puts so many shapes on a page, far from the order of their ids, two by one index. Then the first
 // goes behind the last, the second before the first, both to another page and one back, and each
 // third goes.
-fn listed(alloc: Global, count: u32) -> Result<String, Fail> {
+fn list_script(alloc: Global, count: u32) -> Result<String, Fail> {
     let mut script = String::from_str(alloc, "page p\npage q\nlook\n")?;
     for number in 0..count {
         let place = number.wrapping_mul(179) % 400;
@@ -121,7 +121,7 @@ look
 fn lists_of_any_length_are_those_of_a_plain_store(rt: HostRuntime) -> Result<(), Fail> {
     let alloc = rt.alloc();
     for count in LENGTHS {
-        let script = listed(alloc, count)?;
+        let script = list_script(alloc, count)?;
         alike(&rt, alloc, script.as_str())?;
     }
     Ok(())

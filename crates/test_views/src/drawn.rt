@@ -81,7 +81,12 @@ impl Draws {
 }
 
 /// A script of so many calls that are drawn, with a look at the stores after each so many of them.
-pub(crate) fn drawn(alloc: Global, first: u16, count: u16, looks: u16) -> Result<String, Fail> {
+pub(crate) fn draw_script(
+    alloc: Global,
+    first: u16,
+    count: u16,
+    looks: u16,
+) -> Result<String, Fail> {
     let mut draws = Draws { last: first };
     let mut script = String::new(alloc);
     let mut unseen = 0u16;

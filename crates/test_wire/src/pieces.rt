@@ -51,7 +51,7 @@ const CUTS: &str = r#"
 "#;
 
 // What a piece gives, as the table writes it.
-fn given(alloc: Global, answer: &Result<Option<Text>, PieceFault>) -> Result<String, Fail> {
+fn answer_text(alloc: Global, answer: &Result<Option<Text>, PieceFault>) -> Result<String, Fail> {
     Ok(match answer {
         Ok(None) => String::from_str(alloc, "-")?,
         Ok(Some(text)) => format!(in alloc; "={}", text.as_str())?,
@@ -73,7 +73,7 @@ pub(crate) fn all_given(alloc: Global, fed: &str) -> Result<String, Fail> {
     let mut all = String::new(alloc);
     for piece in fed.split(" ") {
         let answer = assembler.feed(alloc, piece);
-        add(&mut all, given(alloc, &answer)?.as_str())?;
+        add(&mut all, answer_text(alloc, &answer)?.as_str())?;
     }
     Ok(all)
 }
@@ -124,7 +124,7 @@ fn put_together(alloc: Global, limit: usize, pieces: &[Text]) -> Result<String, 
     let mut last = String::new(alloc);
     for piece in pieces {
         let answer = assembler.feed(alloc, piece.as_str());
-        last = given(alloc, &answer)?;
+        last = answer_text(alloc, &answer)?;
     }
     Ok(last)
 }

@@ -17,7 +17,7 @@ TooDeep | data 65
 "#;
 
 // The name of a fault.
-pub(crate) fn refused(fault: MsgFault) -> &'static str {
+pub(crate) fn name_of(fault: MsgFault) -> &'static str {
     match fault {
         MsgFault::Val(ValFault::BadJson) => "BadJson",
         MsgFault::Val(ValFault::NotWhole) => "NotWhole",
@@ -77,7 +77,7 @@ pub(crate) fn nested_fault(alloc: Global, depth: &str) -> Result<String, Fail> {
 fn client_fault(alloc: Global, text: &[u8]) -> &'static str {
     match read_client(alloc, text) {
         Ok(_) => "none",
-        Err(fault) => refused(fault),
+        Err(fault) => name_of(fault),
     }
 }
 
@@ -85,7 +85,7 @@ fn client_fault(alloc: Global, text: &[u8]) -> &'static str {
 fn room_fault(alloc: Global, text: &[u8]) -> &'static str {
     match read_server(alloc, text) {
         Ok(_) => "none",
-        Err(fault) => refused(fault),
+        Err(fault) => name_of(fault),
     }
 }
 

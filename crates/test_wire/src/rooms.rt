@@ -1,5 +1,5 @@
 //! The messages of rooms: what each is read from and printed as, and what is refused.
-use crate::refusals::refused;
+use crate::refusals::name_of;
 use crate::tables::{Reading, plays};
 use std::alloc::Global;
 use std::test::Fail;
@@ -83,13 +83,13 @@ WrongKind | {"data":[{"action":"commit","clientClock":1,"serverClock":2,"type":"
 // The text of a message that is read from one, or the name of what the text is refused for.
 pub(crate) fn room_text(alloc: Global, text: &str) -> Result<String, Fail> {
     match read_server(alloc, text.as_bytes()) {
-        Ok(message) => printed(alloc, &message),
-        Err(fault) => Ok(String::from_str(alloc, refused(fault))?),
+        Ok(message) => message_text(alloc, &message),
+        Err(fault) => Ok(String::from_str(alloc, name_of(fault))?),
     }
 }
 
 // The text of a message, which is that of its value.
-fn printed(alloc: Global, message: &ServerMessage) -> Result<String, Fail> {
+fn message_text(alloc: Global, message: &ServerMessage) -> Result<String, Fail> {
     let text = String::from_utf8(message.print(alloc)?)?;
     let of_value = String::from_utf8(message.val(alloc)?.print(alloc)?)?;
     if text.as_str() != of_value.as_str() {

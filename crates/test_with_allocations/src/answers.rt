@@ -7,7 +7,7 @@ use std::alloc::Global;
 use std::test::Fail;
 use sync_client::{ConnectFault, PresenceFault, TakeFault};
 use sync_msgs::ClientMessage;
-use test_with_cases::printed;
+use test_with_cases::val_text;
 use tl_rules::TlValue;
 
 /// What a call gives, where memory wasn't refused.
@@ -26,7 +26,7 @@ pub(crate) enum Answer {
 
 impl Answer {
     /// That the call was done.
-    pub(crate) fn done() -> Answer {
+    pub(crate) fn done_word() -> Answer {
         Answer::Word("done")
     }
 
@@ -35,8 +35,8 @@ impl Answer {
         match self {
             Answer::Word(word) => Ok(String::from_str(alloc, word)?),
             Answer::Number(number) => Ok(format!(in alloc; "{number}")?),
-            Answer::Back(diff) => printed(alloc, &diff_val(alloc, diff)?),
-            Answer::Said(message) => said(alloc, message),
+            Answer::Back(diff) => val_text(alloc, &diff_val(alloc, diff)?),
+            Answer::Said(message) => message_text(alloc, message),
             Answer::Before(stored) => maybe_text(alloc, stored.as_ref()),
             Answer::Found(value) => value_text(alloc, value),
             Answer::Told(told) => told_text(alloc, told),
@@ -46,9 +46,9 @@ impl Answer {
 }
 
 /// What came of a message.
-pub(crate) fn taken(given: Result<(), TakeFault>) -> Mem<Answer> {
+pub(crate) fn take_answer(given: Result<(), TakeFault>) -> Mem<Answer> {
     match given {
-        Ok(()) => Ok(Answer::done()),
+        Ok(()) => Ok(Answer::done_word()),
         Err(TakeFault::NotOpen) => Ok(Answer::Word("NotOpen")),
         Err(TakeFault::WrongRequest) => Ok(Answer::Word("WrongRequest")),
         Err(TakeFault::NoPending(_)) => Ok(Answer::Word("NoPending")),
@@ -59,9 +59,9 @@ pub(crate) fn taken(given: Result<(), TakeFault>) -> Mem<Answer> {
 }
 
 /// What came of a presence.
-pub(crate) fn presented(given: Result<(), PresenceFault>) -> Mem<Answer> {
+pub(crate) fn presence_answer(given: Result<(), PresenceFault>) -> Mem<Answer> {
     match given {
-        Ok(()) => Ok(Answer::done()),
+        Ok(()) => Ok(Answer::done_word()),
         Err(PresenceFault::WrongScope(_)) => Ok(Answer::Word("WrongScope")),
         Err(PresenceFault::Invalid(_, _)) => Ok(Answer::Word("Invalid")),
         Err(PresenceFault::OutOfMemory) => Err(OutOfMemory),
@@ -69,7 +69,7 @@ pub(crate) fn presented(given: Result<(), PresenceFault>) -> Mem<Answer> {
 }
 
 /// What came of asking to be connected.
-pub(crate) fn asked(given: Result<ClientMessage, ConnectFault>) -> Mem<Answer> {
+pub(crate) fn connect_answer(given: Result<ClientMessage, ConnectFault>) -> Mem<Answer> {
     match given {
         Ok(message) => Ok(Answer::Said(message)),
         Err(ConnectFault::AlreadyOpen) => Ok(Answer::Word("AlreadyOpen")),
@@ -79,7 +79,7 @@ pub(crate) fn asked(given: Result<ClientMessage, ConnectFault>) -> Mem<Answer> {
 }
 
 /// The next push, if there is one.
-pub(crate) fn pushed(given: Option<ClientMessage>) -> Answer {
+pub(crate) fn push_answer(given: Option<ClientMessage>) -> Answer {
     match given {
         Some(message) => Answer::Said(message),
         None => Answer::Word("none"),
@@ -87,7 +87,7 @@ pub(crate) fn pushed(given: Option<ClientMessage>) -> Answer {
 }
 
 /// What a client says: its request with the clock that it has reached, or its push.
-fn said(alloc: Global, message: &ClientMessage) -> Result<String, Fail> {
+fn message_text(alloc: Global, message: &ClientMessage) -> Result<String, Fail> {
     match message {
         ClientMessage::Connect {
             connect_request_id,
@@ -113,8 +113,8 @@ fn said(alloc: Global, message: &ClientMessage) -> Result<String, Fail> {
 /// What a push has: a diff or the operation on a presence.
 fn work(alloc: Global, diff: Option<&Diff>, presence: Option<&RecordOp>) -> Result<String, Fail> {
     match (diff, presence) {
-        (Some(diff), None) => printed(alloc, &diff_val(alloc, diff)?),
-        (None, Some(op)) => printed(alloc, &op_val(alloc, op)?),
+        (Some(diff), None) => val_text(alloc, &diff_val(alloc, diff)?),
+        (None, Some(op)) => val_text(alloc, &op_val(alloc, op)?),
         _ => Ok(String::from_str(alloc, "something else")?),
     }
 }
@@ -122,7 +122,7 @@ fn work(alloc: Global, diff: Option<&Diff>, presence: Option<&RecordOp>) -> Resu
 /// A record, if there is one.
 fn maybe_text(alloc: Global, stored: Option<&Val>) -> Result<String, Fail> {
     match stored {
-        Some(val) => printed(alloc, val),
+        Some(val) => val_text(alloc, val),
         None => Ok(String::from_str(alloc, "none")?),
     }
 }
@@ -164,7 +164,7 @@ fn box_text(alloc: Global, found: Option<Rect>) -> Result<String, Fail> {
 fn told_text(alloc: Global, told: &[(WatchId, Val)]) -> Result<String, Fail> {
     let mut text = String::from_str(alloc, "told")?;
     for (watch, val) in told {
-        let val = printed(alloc, val)?;
+        let val = val_text(alloc, val)?;
         let part = format!(in alloc; ", {} is {val}", watch.number)?;
         text.push_str(part.as_str())?;
     }

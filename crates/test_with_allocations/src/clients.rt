@@ -1,7 +1,7 @@
 //! Calls of a client, over a store that isn't the plain one.
 ghost use Rattle.std.specs.Prelude.{◌≡◌, ◌<◌};
 
-use crate::answers::{Answer, asked, presented, pushed, taken};
+use crate::answers::{Answer, connect_answer, presence_answer, push_answer, take_answer};
 use crate::calls::Call;
 use crate::player::Subject;
 use crate::stores::{VERSION, records_text};
@@ -11,7 +11,7 @@ use std::marker::Brand;
 use std::sync::ledger::{Blank, Ledger};
 use std::test::Fail;
 use sync_client::SyncClient;
-use test_with_cases::printed;
+use test_with_cases::val_text;
 use test_with_counts::CountingStore;
 use tl_tables::schema_at;
 
@@ -32,16 +32,16 @@ impl PlayedClient {
 }
 
 impl Subject for PlayedClient {
-    fn done(&mut self, alloc: Global, call: &Call) -> Mem<Answer> {
+    fn do_call(&mut self, alloc: Global, call: &Call) -> Mem<Answer> {
         call_client(alloc, &mut self.client, call)
     }
 
     /// The clock that it has reached, how much it owes, its document, and the presence of others.
-    fn shown(&self, alloc: Global) -> Result<String, Fail> {
+    fn state_text(&self, alloc: Global) -> Result<String, Fail> {
         let clock = self.client.reached();
         let owed = self.client.owed();
         let document = records_text(alloc, self.client.store())?;
-        let others = printed(alloc, &Val::Map(self.client.others().copy(alloc)?))?;
+        let others = val_text(alloc, &Val::Map(self.client.others().copy(alloc)?))?;
         Ok(format!(in alloc; "{clock} owes {owed}: {document} {others}")?)
     }
 }
@@ -69,13 +69,13 @@ fn call_in<L: Ledger>(
             false,
             &mut steps,
         )?)),
-        Call::Take(message) => taken(client.take(alloc, message, &mut steps)),
-        Call::Presence(val) => presented(client.presence(alloc, val.copy(alloc)?)),
-        Call::Connect(request) => asked(client.connect(alloc, *request)),
-        Call::NextPush => Ok(pushed(client.next_push(alloc)?)),
+        Call::Take(message) => take_answer(client.take(alloc, message, &mut steps)),
+        Call::Presence(val) => presence_answer(client.presence(alloc, val.copy(alloc)?)),
+        Call::Connect(request) => connect_answer(client.connect(alloc, *request)),
+        Call::NextPush => Ok(push_answer(client.next_push(alloc)?)),
         Call::Lost => {
             client.lost(alloc);
-            Ok(Answer::done())
+            Ok(Answer::done_word())
         }
         _ => Ok(Answer::Word("no call of a client")),
     }

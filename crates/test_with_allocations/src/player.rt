@@ -5,16 +5,16 @@ use rooms_val::Mem;
 use std::alloc::Global;
 use std::io::Print;
 use std::test::Fail;
-use test_with_boards::expanded;
+use test_with_boards::board_text;
 use test_with_cases::{cells, rows};
 
 /// What the calls of a course are done on.
 pub(crate) trait Subject {
     /// Does a call. Where memory is refused the subject is to be as before.
-    fn done(&mut self, alloc: Global, call: &Call) -> Mem<Answer>;
+    fn do_call(&mut self, alloc: Global, call: &Call) -> Mem<Answer>;
 
     /// What it shows.
-    fn shown(&self, alloc: Global) -> Result<String, Fail>;
+    fn state_text(&self, alloc: Global) -> Result<String, Fail>;
 }
 
 /// How a course is played.
@@ -58,11 +58,11 @@ pub(crate) fn play<S: Subject>(
     probes: &str,
     how: &Manner,
 ) -> Result<bool, Fail> {
-    let course = expanded(alloc, course)?;
+    let course = board_text(alloc, course)?;
     let rows = rows(alloc, course.as_str())?;
     let calls = calls_of(alloc, &rows)?;
     let probes = probes_of(alloc, probes)?;
-    let now = subject.shown(alloc)?;
+    let now = subject.state_text(alloc)?;
     for _ in 0..how.before {
         drop(Box::new(alloc, 0u8)?);
     }
@@ -90,7 +90,7 @@ fn calls_of(alloc: Global, rows: &[&str]) -> Result<Vec<Call>, Fail> {
 
 /// The calls by which a subject is compared with its twin.
 fn probes_of(alloc: Global, probes: &str) -> Result<Vec<Call>, Fail> {
-    let probes = expanded(alloc, probes)?;
+    let probes = board_text(alloc, probes)?;
     let rows = rows(alloc, probes.as_str())?;
     calls_of(alloc, &rows)
 }
@@ -132,11 +132,11 @@ fn play_row<S: Subject>(
     again: bool,
 ) -> Result<Came, Fail> {
     let [line, wanted, after, ..] = cells(row);
-    let first = subject.done(alloc, call);
+    let first = subject.do_call(alloc, call);
     if first.is_err() {
         let (word, _) = cut(line);
         println!(rt; "refused: {word}")?;
-        let shows = subject.shown(alloc)?;
+        let shows = subject.state_text(alloc)?;
         if shows.as_str() != now {
             return differs(alloc, row, shows.as_str());
         }
@@ -146,13 +146,13 @@ fn play_row<S: Subject>(
     }
     let answer = match first {
         Ok(answer) => answer,
-        Err(_) => subject.done(alloc, call)?,
+        Err(_) => subject.do_call(alloc, call)?,
     };
     let gives = answer.text(alloc)?;
     if gives.as_str() != wanted {
         return differs(alloc, row, gives.as_str());
     }
-    let shows = subject.shown(alloc)?;
+    let shows = subject.state_text(alloc)?;
     let written = if after.is_empty() { now } else { after };
     if shows.as_str() != written {
         return differs(alloc, row, shows.as_str());
@@ -175,7 +175,7 @@ fn replay<S: Subject>(
     let mut place = 0usize;
     for call in calls {
         if place < count {
-            drop(twin.done(alloc, call)?);
+            drop(twin.do_call(alloc, call)?);
         }
         place = place.saturating_add(1);
     }
@@ -204,8 +204,8 @@ fn is_as_beside<S: Subject>(
 
 /// What a subject gives at a call, and what it shows then.
 fn told_by<S: Subject>(alloc: Global, subject: &mut S, probe: &Call) -> Result<String, Fail> {
-    let answer = subject.done(alloc, probe)?;
+    let answer = subject.do_call(alloc, probe)?;
     let gives = answer.text(alloc)?;
-    let shows = subject.shown(alloc)?;
+    let shows = subject.state_text(alloc)?;
     Ok(format!(in alloc; "{gives} | {shows}")?)
 }

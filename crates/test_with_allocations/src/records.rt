@@ -4,7 +4,7 @@ ghost use Rattle.record_store.specs.Seen.{begun};
 
 use crate::answers::Answer;
 use crate::calls::Call;
-use crate::peers::watched;
+use crate::peers::watch_answer;
 use crate::player::Subject;
 use crate::stores::{VERSION, call_store, records_text};
 use doc_store::{DocStore, TxnFault};
@@ -39,7 +39,7 @@ impl PlayedBoard {
 }
 
 impl Subject for PlayedBoard {
-    fn done(&mut self, alloc: Global, call: &Call) -> Mem<Answer> {
+    fn do_call(&mut self, alloc: Global, call: &Call) -> Mem<Answer> {
         match call {
             Call::Write(_, _) => call_store(alloc, &self.schema, &mut self.store, call),
             Call::Apply(_) => call_store(alloc, &self.schema, &mut self.store, call),
@@ -48,7 +48,7 @@ impl Subject for PlayedBoard {
     }
 
     /// How many transactions are open, which numbers are watched, how many writes were committed, and its records.
-    fn shown(&self, alloc: Global) -> Result<String, Fail> {
+    fn state_text(&self, alloc: Global) -> Result<String, Fail> {
         let open = self.store.depth();
         let watches = numbers(alloc, &self.store)?;
         let writes = writes(alloc, &self.store)?;
@@ -84,7 +84,7 @@ fn call_board(alloc: Global, store: &mut RecordStore, call: &Call) -> Mem<Answer
         Call::Commit => Ok(commit(store)),
         Call::Abort => Ok(abort(store)),
         Call::Ask(key) => Ok(Answer::Found(ask(alloc, store, key)?)),
-        Call::Watch(key) => watched(store.watch(key.copy(alloc)?)),
+        Call::Watch(key) => watch_answer(store.watch(key.copy(alloc)?)),
         Call::Due => due(alloc, store),
         _ => Ok(Answer::Word("no call of a board")),
     }
@@ -93,7 +93,7 @@ fn call_board(alloc: Global, store: &mut RecordStore, call: &Call) -> Mem<Answer
 /// What came of the begin of a transaction.
 fn begun_by(given: Result<(), TxnFault>) -> Mem<Answer> {
     match given {
-        Ok(()) => Ok(Answer::done()),
+        Ok(()) => Ok(Answer::done_word()),
         Err(TxnFault::TooNested) => Ok(Answer::Word("TooNested")),
         Err(TxnFault::OutOfMemory) => Err(OutOfMemory),
     }
@@ -105,7 +105,7 @@ fn commit(store: &mut RecordStore) -> Answer {
         return Answer::Word("none is open");
     }
     store.commit();
-    Answer::done()
+    Answer::done_word()
 }
 
 /// Aborts the newest transaction, if one is open.
@@ -114,7 +114,7 @@ fn abort(store: &mut RecordStore) -> Answer {
         return Answer::Word("none is open");
     }
     store.abort();
-    Answer::done()
+    Answer::done_word()
 }
 
 fn ask_in<L: Ledger>(

@@ -12,7 +12,7 @@ use std::alloc::Global;
 use std::marker::Brand;
 use std::sync::ledger::{Blank, Ledger};
 use std::test::Fail;
-use test_with_cases::printed;
+use test_with_cases::val_text;
 use test_with_counts::CountingStore;
 use tl_tables::schema_at;
 
@@ -43,12 +43,12 @@ pub(crate) fn counting_store(alloc: Global) -> Result<PlayedStore<CountingStore>
 }
 
 impl<D: DocStore> Subject for PlayedStore<D> {
-    fn done(&mut self, alloc: Global, call: &Call) -> Mem<Answer> {
+    fn do_call(&mut self, alloc: Global, call: &Call) -> Mem<Answer> {
         call_store(alloc, &self.schema, &mut self.store, call)
     }
 
     /// Its records.
-    fn shown(&self, alloc: Global) -> Result<String, Fail> {
+    fn state_text(&self, alloc: Global) -> Result<String, Fail> {
         records_text(alloc, &self.store)
     }
 }
@@ -62,7 +62,7 @@ pub(crate) fn records_text<D: DocStore>(alloc: Global, store: &D) -> Result<Stri
             drop(fields.put(id, val)?);
         }
     }
-    printed(alloc, &Val::Map(fields))
+    val_text(alloc, &Val::Map(fields))
 }
 
 /// Does a call that each store has.
@@ -77,7 +77,7 @@ pub(crate) fn call_store<D: DocStore>(
             let stored = Val::copy_slot(alloc, stored)?;
             Ok(Answer::Before(write(alloc, store, id, stored)?))
         }
-        Call::Apply(diff) => applied(apply_all(alloc, store, schema, diff)),
+        Call::Apply(diff) => apply_answer(apply_all(alloc, store, schema, diff)),
         _ => Ok(Answer::Word("no call of a store")),
     }
 }
@@ -133,7 +133,7 @@ fn apply_all<D: DocStore>(
 }
 
 /// What came of a diff.
-fn applied(given: Result<Diff, TxnFault>) -> Mem<Answer> {
+fn apply_answer(given: Result<Diff, TxnFault>) -> Mem<Answer> {
     match given {
         Ok(back) => Ok(Answer::Back(back)),
         Err(TxnFault::TooNested) => Ok(Answer::Word("TooNested")),

@@ -59,7 +59,7 @@ const PRESENCE: &str =
 ///
 /// # Errors
 /// A name that is none of these, and where memory is refused.
-pub fn expanded(alloc: Global, text: &str) -> Result<String, Fail> {
+pub fn board_text(alloc: Global, text: &str) -> Result<String, Fail> {
     let mut out = String::new(alloc);
     let (front, named) = text.split_once('$').unwrap_or((text, ""));
     out.push_str(front)?;
@@ -80,7 +80,7 @@ fn expand(out: &mut String, part: &str) -> Result<(), Fail> {
     }
     let (call, rest) = part.split_once(')').unwrap_or((part, ""));
     let (name, given) = call.split_once('(').unwrap_or((call, ""));
-    named(out, name, arguments(given))?;
+    add_record(out, name, arguments(given))?;
     out.push_str(rest)?;
     Ok(())
 }
@@ -98,7 +98,7 @@ fn arguments(given: &str) -> [&str; 4] {
 }
 
 // Adds the text of the record of a short name.
-fn named(out: &mut String, name: &str, given: [&str; 4]) -> Result<(), Fail> {
+fn add_record(out: &mut String, name: &str, given: [&str; 4]) -> Result<(), Fail> {
     let [first, index, x, seen] = given;
     match name {
         "E" => fill(out, OTHER_PAGE, [first, index, "", ""]),
@@ -134,7 +134,7 @@ fn fill(out: &mut String, text: &str, given: [&str; 4]) -> Result<(), Fail> {
 /// # Errors
 /// The fault of a text that is no value, a name that is none, and where memory is refused.
 pub fn board_value(alloc: Global, text: &str) -> Result<Val, Fail> {
-    value(alloc, expanded(alloc, text)?.as_str())
+    value(alloc, board_text(alloc, text)?.as_str())
 }
 
 /// The diff of a text with short names of records.

@@ -46,6 +46,6 @@ pub fn value(alloc: Global, text: &str) -> Result<Val, Fail> {
 ///
 /// # Errors
 /// Where memory is refused.
-pub fn printed(alloc: Global, val: &Val) -> Result<String, Fail> {
+pub fn val_text(alloc: Global, val: &Val) -> Result<String, Fail> {
     Ok(String::from_utf8(val.print(alloc)?)?)
 }

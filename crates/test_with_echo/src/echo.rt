@@ -57,19 +57,19 @@ fn end_of(stop: Stop) -> End {
 /// Answers a text, or says how the link ended by it.
 fn answer<K: Link>(alloc: Global, link: &mut K, bytes: &[u8]) -> Result<(), End> {
     let Ok(text) = str::from_utf8(bytes) else {
-        return closed(link);
+        return close_link(link);
     };
     if text == "leave" || bytes.len() > LONGEST_TEXT {
-        return closed(link);
+        return close_link(link);
     }
     if text == "flood" {
         return flood(alloc, link);
     }
-    sent(link, text)
+    send_text(link, text)
 }
 
 /// Closes a link.
-fn closed<K: Link>(link: &mut K) -> Result<(), End> {
+fn close_link<K: Link>(link: &mut K) -> Result<(), End> {
     match link.close(EndReason::InvalidRecord) {
         Ok(()) => Err(End::Closed),
         Err(stop) => Err(end_of(stop)),
@@ -77,7 +77,7 @@ fn closed<K: Link>(link: &mut K) -> Result<(), End> {
 }
 
 /// Sends a text.
-fn sent<K: Link>(link: &mut K, text: &str) -> Result<(), End> {
+fn send_text<K: Link>(link: &mut K, text: &str) -> Result<(), End> {
     match link.send(text) {
         Ok(()) => Ok(()),
         Err(stop) => Err(end_of(stop)),
@@ -93,13 +93,13 @@ fn flood<K: Link>(alloc: Global, link: &mut K) -> Result<(), End> {
         }
     }
     for _ in 0..FLOOD {
-        sent(link, text.as_str())?;
+        send_text(link, text.as_str())?;
     }
     Ok(())
 }
 
 /// Serves a link up to its end.
-pub(crate) fn served<K: Link>(alloc: Global, link: &mut K) -> Report {
+pub(crate) fn serve_link<K: Link>(alloc: Global, link: &mut K) -> Report {
     let mut report = Report {
         end: End::Ended,
         texts: 0,

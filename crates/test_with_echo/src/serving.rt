@@ -1,5 +1,5 @@
 //! Workers, each in a thread.
-use crate::echo::served;
+use crate::echo::serve_link;
 use room_link::accept::Accept;
 use socket_link::worker::ListenerWorker;
 use std::alloc::{AllocError, Global};
@@ -30,7 +30,7 @@ fn serve_one<R: Print, A: Accept>(rt: &R, alloc: Global, number: usize, worker: 
         match worker.next() {
             Ok(Some(link)) => {
                 let mut link = link;
-                let report = served(alloc, &mut link);
+                let report = serve_link(alloc, &mut link);
                 worker.back(link);
                 let word = report.end.word();
                 // Where a line can't be printed, nothing is lost but the line.

@@ -1,7 +1,7 @@
 //! Sessions of several threads in one running room.
-use crate::pens::{opened, replay_difference};
+use crate::pens::{open_new_room, replay_difference};
 use crate::sayings::{messages_of, said_difference};
-use crate::talks::{all_talk, parted};
+use crate::talks::{all_talk, part_talks};
 use std::alloc::Global;
 use std::sync::Wait;
 use std::test::Fail;
@@ -33,9 +33,9 @@ fn difference_among<R: Threads + Wait + Sync>(
     alloc: Global,
     messages: &[Vec<ClientMessage>],
 ) -> Result<Option<String>, Fail> {
-    let room = opened(alloc)?;
+    let room = open_new_room(alloc)?;
     let talks = all_talk(rt, alloc, &room, messages)?;
-    let (all, gones) = parted(alloc, &room, talks)?;
+    let (all, gones) = part_talks(alloc, &room, talks)?;
     let closed = room.close(rt, gones);
     for (said, given) in messages.iter().zip(all.iter()) {
         if let Some(difference) = said_difference(alloc, closed.pen.as_slice(), said, given)? {

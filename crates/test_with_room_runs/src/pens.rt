@@ -8,8 +8,8 @@ use std::test::Fail;
 use sync_msgs::{ClientMessage, Out};
 use sync_room::Room;
 use table_schemas::tables_have_presences;
-use test_with_boards::expanded;
-use test_with_cases::printed;
+use test_with_boards::board_text;
+use test_with_cases::val_text;
 use test_with_rooms::{first_difference, handled_text, out_text};
 use tl_tables::schema_at;
 
@@ -17,7 +17,7 @@ use tl_tables::schema_at;
 const LAST: i64 = 1_000_000;
 
 // A running room of version 3 in which nothing has happened.
-pub(crate) fn opened(alloc: Global) -> Result<RunningRoom, Fail> {
+pub(crate) fn open_new_room(alloc: Global) -> Result<RunningRoom, Fail> {
     let schema = schema_at(alloc, 3)?;
     tables_have_presences();
     let room = Room::new(alloc, schema, LAST)?;
@@ -31,7 +31,7 @@ pub(crate) fn pen_difference(
     wanted: &str,
 ) -> Result<Option<String>, Fail> {
     let found = rows_of(alloc, events)?;
-    let wanted = expanded(alloc, wanted)?;
+    let wanted = board_text(alloc, wanted)?;
     if found.as_str().ends_with(wanted.as_str()) {
         return Ok(None);
     }
@@ -51,8 +51,8 @@ pub fn replay_difference(alloc: Global, closed: &Closed) -> Result<Option<String
 // What a room tells of itself, as rows.
 fn room_rows(alloc: Global, room: &Room) -> Result<String, Fail> {
     let clock = room.clock();
-    let document = printed(alloc, &room.document(alloc)?)?;
-    let presences = printed(alloc, &room.presence(alloc)?)?;
+    let document = val_text(alloc, &room.document(alloc)?)?;
+    let presences = val_text(alloc, &room.presence(alloc)?)?;
     Ok(format!(in alloc; "clock | {clock}\ndocument | {document}\npresences | {presences}\n")?)
 }
 
@@ -147,11 +147,11 @@ fn step_of(alloc: Global, number: u64, message: &ClientMessage) -> Result<String
             presence,
         } => {
             if let Some(op) = presence {
-                let op = printed(alloc, &op_val(alloc, op)?)?;
+                let op = val_text(alloc, &op_val(alloc, op)?)?;
                 return Ok(format!(in alloc; "presence {number} {client_clock} {op}")?);
             }
             let diff = match diff {
-                Some(diff) => printed(alloc, &diff_val(alloc, diff)?)?,
+                Some(diff) => val_text(alloc, &diff_val(alloc, diff)?)?,
                 None => String::from_str(alloc, "-")?,
             };
             Ok(format!(in alloc; "push {number} {client_clock} {diff}")?)

@@ -3,12 +3,12 @@ ghost use Rattle.std.specs.Prelude.{OnOk};
 ghost use Rattle.test_with_room_runs.specs.Casts.{AreOf};
 
 use crate::cast::Cast;
-use crate::pens::{opened, pen_difference, replay_difference};
+use crate::pens::{open_new_room, pen_difference, replay_difference};
 use room_run::RunningRoom;
 use std::alloc::Global;
 use std::sync::Wait;
 use std::test::Fail;
-use test_with_boards::expanded;
+use test_with_boards::board_text;
 use test_with_cases::{cells, rows};
 use test_with_rooms::message_of;
 
@@ -27,7 +27,7 @@ pub fn first_difference<R: Wait>(
     script: &str,
     pen: &str,
 ) -> Result<Option<String>, Fail> {
-    let room = opened(alloc)?;
+    let room = open_new_room(alloc)?;
     let mut cast = Cast {
         passes: Vec::new(alloc),
         gones: Vec::new(alloc),
@@ -57,7 +57,7 @@ fn difference_in<R: Wait>(
     'rows: for row in &rows(alloc, script)? {
         let [step, wanted, ..] = cells(row);
         let found = answer(rt, alloc, room, cast, step)?;
-        let wanted = expanded(alloc, wanted)?;
+        let wanted = board_text(alloc, wanted)?;
         if found.as_str() != wanted.as_str() {
             let text = format!(in alloc; "at {step}: {found}, and not {wanted}")?;
             return Ok(Some(text));

@@ -72,7 +72,7 @@ pub(crate) fn all_talk<R: Threads + Wait + Sync>(
 }
 
 // What sessions were given, and what became of their passes apart.
-pub(crate) fn parted(
+pub(crate) fn part_talks(
     alloc: Global,
     room: &RunningRoom,
     talks: Vec<Mem<Talk>>,

@@ -1,12 +1,12 @@
 //! The messages of scripts.
-use crate::texts::{add_numbered, add_parts, cut, lettered, number, whole};
+use crate::texts::{add_numbered, add_parts, cut, number, whole, with_letters};
 use field_ops::{Diff, RecordOp, read_op};
 use migrate_seq::Serialized;
 use rooms_val::Text;
 use std::alloc::Global;
 use std::test::Fail;
 use sync_msgs::ClientMessage;
-use test_with_boards::{board_diff, board_value, expanded};
+use test_with_boards::{board_diff, board_text, board_value};
 
 /// The message of a step that is one, and the number of the session that sends it. `None` if the step is another one.
 ///
@@ -64,18 +64,18 @@ fn push(alloc: Global, rest: &str) -> Result<ClientMessage, Fail> {
     } else {
         Some(board_diff(alloc, text)?)
     };
-    Ok(pushed(whole(clock)?, diff, None))
+    Ok(push_with(whole(clock)?, diff, None))
 }
 
 // A push of an operation on the session's presence.
 fn presence(alloc: Global, rest: &str) -> Result<ClientMessage, Fail> {
     let (clock, text) = cut(rest);
     let op = read_op(alloc, &board_value(alloc, text)?)?;
-    Ok(pushed(whole(clock)?, None, Some(op)))
+    Ok(push_with(whole(clock)?, None, Some(op)))
 }
 
 // A push of a diff and an operation on the session's presence, if any.
-fn pushed(client_clock: i64, diff: Option<Diff>, presence: Option<RecordOp>) -> ClientMessage {
+fn push_with(client_clock: i64, diff: Option<Diff>, presence: Option<RecordOp>) -> ClientMessage {
     ClientMessage::Push {
         client_clock,
         diff,
@@ -86,13 +86,13 @@ fn pushed(client_clock: i64, diff: Option<Diff>, presence: Option<RecordOp>) -> 
 // A push of a diff of many parts.
 fn bulk(alloc: Global, rest: &str) -> Result<ClientMessage, Fail> {
     let (clock, rest) = cut(rest);
-    let text = lettered(alloc, rest)?;
-    let text = expanded(alloc, text.as_str())?;
+    let text = with_letters(alloc, rest)?;
+    let text = board_text(alloc, text.as_str())?;
     let mut all = String::from_str(alloc, "{")?;
     add_parts(alloc, &mut all, text.as_str())?;
     all.push_str("}")?;
     let diff = board_diff(alloc, all.as_str())?;
-    Ok(pushed(whole(clock)?, Some(diff), None))
+    Ok(push_with(whole(clock)?, Some(diff), None))
 }
 
 // A push of a diff in which each `@` stands for the client clock.
@@ -102,5 +102,5 @@ pub(crate) fn numbered_push(alloc: Global, clock: u64, text: &str) -> Result<Cli
     add_numbered(&mut diff, text, name.as_str())?;
     diff.push_str("}")?;
     let diff = board_diff(alloc, diff.as_str())?;
-    Ok(pushed(whole(name.as_str())?, Some(diff), None))
+    Ok(push_with(whole(name.as_str())?, Some(diff), None))
 }

@@ -2,13 +2,13 @@
 //!
 //! A saved room is written as `{"clock":3,"documents":[[1,{..}]],"start":0,"tombstones":[[3,"shape:a"]]}`: each record and each
 //! removed id stands behind its clock.
-use crate::texts::{lettered, numbered};
+use crate::texts::{with_letters, with_parts};
 use rooms_val::{Text, Val};
 use std::alloc::Global;
 use std::test::Fail;
 use sync_room::{LoadFault, SavedRecord, SavedRoom, SavedTomb};
-use test_with_boards::expanded;
-use test_with_cases::{printed, value};
+use test_with_boards::board_text;
+use test_with_cases::{val_text, value};
 
 // The text of a saved room.
 pub(crate) fn saved_text(alloc: Global, saved: &SavedRoom) -> Result<String, Fail> {
@@ -27,7 +27,7 @@ pub(crate) fn saved_text(alloc: Global, saved: &SavedRoom) -> Result<String, Fai
 fn records_text(alloc: Global, documents: &[SavedRecord]) -> Result<String, Fail> {
     let mut out = String::new(alloc);
     for saved in documents {
-        let text = printed(alloc, &saved.record)?;
+        let text = val_text(alloc, &saved.record)?;
         add_pair(alloc, &mut out, saved.clock, text.as_str())?;
     }
     Ok(out)
@@ -37,7 +37,7 @@ fn records_text(alloc: Global, documents: &[SavedRecord]) -> Result<String, Fail
 fn tombs_text(alloc: Global, tombstones: &[SavedTomb]) -> Result<String, Fail> {
     let mut out = String::new(alloc);
     for tomb in tombstones {
-        let text = printed(alloc, &Val::Text(tomb.id.copy(alloc)?))?;
+        let text = val_text(alloc, &Val::Text(tomb.id.copy(alloc)?))?;
         add_pair(alloc, &mut out, tomb.clock, text.as_str())?;
     }
     Ok(out)
@@ -55,9 +55,9 @@ fn add_pair(alloc: Global, out: &mut String, clock: i64, text: &str) -> Result<(
 
 // The saved room of a text.
 pub(crate) fn saved_of(alloc: Global, text: &str) -> Result<SavedRoom, Fail> {
-    let text = lettered(alloc, text)?;
-    let text = expanded(alloc, text.as_str())?;
-    let text = numbered(alloc, text.as_str())?;
+    let text = with_letters(alloc, text)?;
+    let text = board_text(alloc, text.as_str())?;
+    let text = with_parts(alloc, text.as_str())?;
     let val = value(alloc, text.as_str())?;
     Ok(SavedRoom {
         clock: clock_in(val.get("clock"))?,

@@ -14,8 +14,8 @@ use std::test::Fail;
 use sync_msgs::{ClientMessage, Out};
 use sync_room::{EnterFault, Room, SessionId};
 use table_schemas::tables_have_presences;
-use test_with_boards::expanded;
-use test_with_cases::{cells, printed, rows};
+use test_with_boards::board_text;
+use test_with_cases::{cells, rows, val_text};
 use tl_tables::schema_at;
 
 /// Plays scripts, one after the other, in a new room of version 3 that refuses pushes from the clock `last` on, which is 1 to
@@ -56,7 +56,7 @@ fn difference_at(
     wanted: &str,
 ) -> Result<Option<String>, Fail> {
     let found = answer(alloc, room, step)?;
-    let wanted = expanded(alloc, wanted)?;
+    let wanted = board_text(alloc, wanted)?;
     if found.as_str() == wanted.as_str() {
         return Ok(None);
     }
@@ -74,36 +74,36 @@ fn new_room(alloc: Global, last: i64) -> Result<Room, Fail> {
 // What a room answers to a step.
 fn answer(alloc: Global, room: &mut Room, step: &str) -> Result<String, Fail> {
     if let Some((session, message)) = message_of(alloc, step)? {
-        return handled(alloc, room, session, &message);
+        return handle_message(alloc, room, session, &message);
     }
     let (word, rest) = cut(step);
     match word {
         "each" => each(alloc, room, rest),
-        "drain" => given(alloc, room, rest, false),
-        "count" => given(alloc, room, rest, true),
-        _ => passed(alloc, room, word, rest),
+        "drain" => next_out(alloc, room, rest, false),
+        "count" => next_out(alloc, room, rest, true),
+        _ => room_answer(alloc, room, word, rest),
     }
 }
 
 // What a room answers to a step that isn't a session's, or is its first or its last, or that puts a room in its place.
-fn passed(alloc: Global, room: &mut Room, word: &str, rest: &str) -> Result<String, Fail> {
+fn room_answer(alloc: Global, room: &mut Room, word: &str, rest: &str) -> Result<String, Fail> {
     match word {
         "enter" => enter(alloc, room, rest == "readonly"),
         "fill" => fill(alloc, room, number(rest)?),
         "leave" => leave(alloc, room, number(rest)?),
         "load" => load(alloc, room, rest),
         "reload" => reload(alloc, room, rest),
-        _ => looked(alloc, room, word, rest),
+        _ => look_answer(alloc, room, word, rest),
     }
 }
 
 // What a room tells of itself.
-fn looked(alloc: Global, room: &Room, word: &str, rest: &str) -> Result<String, Fail> {
+fn look_answer(alloc: Global, room: &Room, word: &str, rest: &str) -> Result<String, Fail> {
     match word {
         "clock" => Ok(format!(in alloc; "{}", room.clock())?),
         "start" => Ok(format!(in alloc; "{}", room.starts_at())?),
-        "document" => printed(alloc, &room.document(alloc)?),
-        "presences" => printed(alloc, &room.presence(alloc)?),
+        "document" => val_text(alloc, &room.document(alloc)?),
+        "presences" => val_text(alloc, &room.presence(alloc)?),
         "record" => record_text(alloc, room, rest),
         "saved" => save(alloc, room),
         _ => Err(Fail::from("no step of a script")),
@@ -113,7 +113,7 @@ fn looked(alloc: Global, room: &Room, word: &str, rest: &str) -> Result<String, 
 // The record of an id.
 fn record_text(alloc: Global, room: &Room, id: &str) -> Result<String, Fail> {
     match room.record(id) {
-        Some(val) => printed(alloc, val),
+        Some(val) => val_text(alloc, val),
         None => Ok(String::from_str(alloc, "none")?),
     }
 }
@@ -149,7 +149,7 @@ fn leave(alloc: Global, room: &mut Room, session: u64) -> Result<String, Fail> {
 }
 
 // A room is given a message of a session. The steps are counted for nobody.
-fn handled(
+fn handle_message(
     alloc: Global,
     room: &mut Room,
     session: u64,
@@ -179,7 +179,7 @@ fn handled_in<L: Ledger>(
 }
 
 // What a session is given, or how much it is.
-fn given(alloc: Global, room: &mut Room, session: &str, counted: bool) -> Result<String, Fail> {
+fn next_out(alloc: Global, room: &mut Room, session: &str, counted: bool) -> Result<String, Fail> {
     let Some(id) = room.find(number(session)?) else {
         return Err(Fail::from("no session of the room"));
     };
@@ -219,7 +219,7 @@ fn each(alloc: Global, room: &mut Room, rest: &str) -> Result<String, Fail> {
     for place in 0..number(count)? {
         let clock = from.saturating_add(place);
         let message = numbered_push(alloc, clock, text)?;
-        told = handled(alloc, room, number(session)?, &message)?;
+        told = handle_message(alloc, room, number(session)?, &message)?;
     }
     Ok(told)
 }

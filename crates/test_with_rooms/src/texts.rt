@@ -3,7 +3,7 @@ use field_ops::{Diff, diff_val};
 use rooms_val::Mem;
 use std::alloc::Global;
 use std::test::Fail;
-use test_with_cases::printed;
+use test_with_cases::val_text;
 
 // The number of a text.
 pub(crate) fn number(text: &str) -> Result<u64, Fail> {
@@ -22,11 +22,11 @@ pub(crate) fn cut(text: &str) -> (&str, &str) {
 
 // The text of a diff.
 pub(crate) fn diff_text(alloc: Global, diff: &Diff) -> Result<String, Fail> {
-    printed(alloc, &diff_val(alloc, diff)?)
+    val_text(alloc, &diff_val(alloc, diff)?)
 }
 
 // A text in which each `~n~` is n letters.
-pub(crate) fn lettered(alloc: Global, text: &str) -> Result<String, Fail> {
+pub(crate) fn with_letters(alloc: Global, text: &str) -> Result<String, Fail> {
     let mut out = String::new(alloc);
     let mut letters = false;
     for part in text.split('~') {
@@ -60,7 +60,7 @@ pub(crate) fn add_numbered(out: &mut String, text: &str, place: &str) -> Mem<()>
 }
 
 // A text in which each `^from count part^` is so many parts.
-pub(crate) fn numbered(alloc: Global, text: &str) -> Result<String, Fail> {
+pub(crate) fn with_parts(alloc: Global, text: &str) -> Result<String, Fail> {
     let mut out = String::new(alloc);
     let mut parts = false;
     for part in text.split('^') {

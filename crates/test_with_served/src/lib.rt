@@ -9,8 +9,8 @@
 //! - the words behind `meanwhile` are texts of another session, `n*` in front of one if it says it n times. It enters once the
 //!   link's text 1 was answered, says them, and stays.
 //!
-//! Texts may have the short names of `test_with_boards` in them, and are those of `texts::named` where they have one. `~n~` stands for n
-//! blanks, `*` for a byte that no text has, and `^n^part^` for n parts, with a comma between them and a number for each `@`.
+//! Texts may have the short names of `test_with_boards` in them, and are those of `texts::named_text` where they have one. `~n~` stands
+//! for n blanks, `*` for a byte that no text has, and `^n^part^` for n parts, with a comma between them and a number for each `@`.
 //!
 //! The second cell has each link's report, with how many arrivals are left; the third what went out on it, as texts and reasons. The
 //! fourth has the room's events when it is closed with those that are gone, and its clock. If the fourth begins with `..`, it is the
@@ -31,4 +31,4 @@ mod visitor;
 pub use links::link_of;
 pub use plays::first_difference;
 pub use says::sent_text;
-pub use texts::spelled;
+pub use texts::spell_out;

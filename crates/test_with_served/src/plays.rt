@@ -5,7 +5,7 @@ ghost use Rattle.room_run.specs.Rooms.{id_of};
 
 use crate::links::{link_of, messages_of};
 use crate::says::{pen_text, report_text, sent_text};
-use crate::texts::spelled;
+use crate::texts::spell_out;
 use crate::visitor::Visitor;
 use room_link::gate::Gate;
 use room_link::link::Link;
@@ -56,11 +56,11 @@ pub fn first_difference<R: Wait>(
 // How a row comes out otherwise than it says.
 fn difference_at<R: Wait>(rt: &R, alloc: Global, row: &str) -> Result<Option<String>, Fail> {
     let [happens, reports, sent, pen] = cells(row);
-    let found = played(rt, alloc, happens)?;
+    let found = outcome_texts(rt, alloc, happens)?;
     let wanted = [reports, sent, pen, ""];
     for (found, wanted) in found.iter().zip(wanted.iter()) {
         let is_end = wanted.strip_prefix("..");
-        let wanted = spelled(alloc, is_end.unwrap_or(wanted))?;
+        let wanted = spell_out(alloc, is_end.unwrap_or(wanted))?;
         let is_met = if is_end.is_some() {
             found.as_str().ends_with(wanted.as_str())
         } else {
@@ -75,9 +75,9 @@ fn difference_at<R: Wait>(rt: &R, alloc: Global, row: &str) -> Result<Option<Str
 
 // What comes out: the reports, what went out, the room's history, and what one thread finds otherwise that does in a new room what
 // the history says.
-fn played<R: Wait>(rt: &R, alloc: Global, happens: &str) -> Result<[String; 4], Fail> {
-    let room = opened(alloc)?;
-    let notes = served(rt, alloc, &room, happens)?;
+fn outcome_texts<R: Wait>(rt: &R, alloc: Global, happens: &str) -> Result<[String; 4], Fail> {
+    let room = open_new_room(alloc)?;
+    let notes = play_in(rt, alloc, &room, happens)?;
     let Notes {
         reports,
         sent,
@@ -90,7 +90,7 @@ fn played<R: Wait>(rt: &R, alloc: Global, happens: &str) -> Result<[String; 4], 
 }
 
 // A running room of version 3 in which nothing has happened.
-fn opened(alloc: Global) -> Result<RunningRoom, Fail> {
+fn open_new_room(alloc: Global) -> Result<RunningRoom, Fail> {
     let schema = schema_at(alloc, 3)?;
     tables_have_presences();
     let room = Room::new(alloc, schema, LAST)?;
@@ -98,7 +98,7 @@ fn opened(alloc: Global) -> Result<RunningRoom, Fail> {
 }
 
 // What is noted of the links of a row.
-fn served<R: Wait>(rt: &R, alloc: Global, room: &RunningRoom, happens: &str) -> Result<Notes, Fail>
+fn play_in<R: Wait>(rt: &R, alloc: Global, room: &RunningRoom, happens: &str) -> Result<Notes, Fail>
     ensures own { IfOk result (λ notes. All (λ gone. room_of_gone gone ≡ id_of room.now) notes.gones.items) }
 {
     let mut notes = Notes {

@@ -1,13 +1,13 @@
 //! The texts of words.
 use std::alloc::Global;
 use std::test::Fail;
-use test_with_boards::expanded;
+use test_with_boards::board_text;
 
 // The most bytes of a text that is written out.
 const LONGEST_SHOWN: usize = 1_000;
 
 // The text of a short name, or the word itself.
-fn named(word: &str) -> &str {
+fn named_text(word: &str) -> &str {
     match word {
         "join" => r#"{"readonly":false,"room":0,"type":"join"}"#,
         "connect" => {
@@ -53,13 +53,13 @@ fn named_reply(word: &str) -> &str {
 
 // The text that a word stands for.
 pub(crate) fn text_of(alloc: Global, word: &str) -> Result<String, Fail> {
-    let text = expanded(alloc, named(word))?;
-    let text = numbered(alloc, text.as_str())?;
-    spaced(alloc, text.as_str())
+    let text = board_text(alloc, named_text(word))?;
+    let text = with_parts(alloc, text.as_str())?;
+    with_blanks(alloc, text.as_str())
 }
 
 // A text in which `^n^part^` is n parts.
-fn numbered(alloc: Global, text: &str) -> Result<String, Fail> {
+fn with_parts(alloc: Global, text: &str) -> Result<String, Fail> {
     let (front, rest) = text.split_once('^').unwrap_or((text, ""));
     let (count, rest) = rest.split_once('^').unwrap_or(("0", rest));
     let (part, rest) = rest.split_once('^').unwrap_or(("", rest));
@@ -87,7 +87,7 @@ fn add_at(out: &mut String, part: &str, place: &str) -> Result<(), Fail> {
 }
 
 // A text in which `~n~` is n blanks.
-fn spaced(alloc: Global, text: &str) -> Result<String, Fail> {
+fn with_blanks(alloc: Global, text: &str) -> Result<String, Fail> {
     let mut out = String::new(alloc);
     let mut is_count = false;
     for part in text.split('~') {
@@ -147,7 +147,7 @@ pub(crate) fn add_shown(alloc: Global, words: &mut String, text: &str) -> Result
 ///
 /// # Errors
 /// A name that is none, and where memory is refused.
-pub fn spelled(alloc: Global, wanted: &str) -> Result<String, Fail> {
+pub fn spell_out(alloc: Global, wanted: &str) -> Result<String, Fail> {
     let mut words = String::new(alloc);
     for word in wanted.split_whitespace() {
         match word.strip_prefix("enters=") {

@@ -139,7 +139,7 @@ fn workers_difference(
     closed: &[Closed],
 ) -> Result<Option<String>, Fail> {
     for (worker, tally) in workers.iter().zip(tallies.iter()) {
-        let links = worker.accept.returned().unwrap_or(&[]);
+        let links = worker.accept.returned_links().unwrap_or(&[]);
         if links.len() != tally.reports.len() {
             return Ok(Some(String::from_str(alloc, "links that have no reports")?));
         }

@@ -6,7 +6,7 @@ use std::sync::Wait;
 use std::test::Fail;
 use std::thread::Threads;
 use test_with_cases::{cells, rows};
-use test_with_served::{sent_text, spelled};
+use test_with_served::{sent_text, spell_out};
 
 /// Plays each row of a table. `None` if each comes out as the row says, else the first that
 /// doesn't, with what came out.
@@ -34,9 +34,9 @@ fn difference_at<R: Threads + Wait + Sync>(
     row: &str,
 ) -> Result<Option<String>, Fail> {
     let [happens, sent, status, lines] = cells(row);
-    let found = played(rt, alloc, happens)?;
+    let found = outcome_texts(rt, alloc, happens)?;
     let wanted = [
-        spelled(alloc, sent)?,
+        spell_out(alloc, sent)?,
         String::from_str(alloc, status)?,
         lines_of(alloc, lines)?,
     ];
@@ -49,7 +49,7 @@ fn difference_at<R: Threads + Wait + Sync>(
 }
 
 // What comes out: what went out on the links, the status, and the lines.
-fn played<R: Threads + Wait + Sync>(
+fn outcome_texts<R: Threads + Wait + Sync>(
     rt: &R,
     alloc: Global,
     happens: &str,
@@ -72,7 +72,7 @@ fn played<R: Threads + Wait + Sync>(
 
 // Adds what went out on the links that a worker was given back.
 fn add_worker(alloc: Global, all: &mut String, worker: &Worker) -> Result<(), Fail> {
-    let Some(links) = worker.accept.returned() else {
+    let Some(links) = worker.accept.returned_links() else {
         return Err(Fail::from("more links came back than there are"));
     };
     let mut parts = String::new(alloc);
@@ -101,7 +101,7 @@ fn lines_of(alloc: Global, words: &str) -> Result<String, Fail> {
     if words == "-" {
         return Ok(lines);
     }
-    for line in spelled(alloc, words)?.as_str().split_whitespace() {
+    for line in spell_out(alloc, words)?.as_str().split_whitespace() {
         lines.push_str(line)?;
         lines.push('\n')?;
     }

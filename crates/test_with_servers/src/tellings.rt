@@ -50,7 +50,7 @@ fn add_worker(
     tally: Option<&Tally>,
     closed: &[Closed],
 ) -> Result<(), Fail> {
-    let links = worker.accept.returned().unwrap_or(&[]);
+    let links = worker.accept.returned_links().unwrap_or(&[]);
     for (place, link) in links.iter().enumerate() {
         let report = match tally {
             Some(tally) => tally.reports.get(place),

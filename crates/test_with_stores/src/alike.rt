@@ -34,7 +34,7 @@ fn unlike_in(
         let told = if *step == "look" {
             unlike(alloc, store, plain, &queries)?
         } else {
-            differing(alloc, store, plain, step)?
+            call_both(alloc, store, plain, step)?
         };
         if !told.is_empty() {
             return Ok(Some(told));
@@ -44,7 +44,7 @@ fn unlike_in(
 }
 
 // Does a call on both stores. It tells nothing if both give the same.
-fn differing(
+fn call_both(
     alloc: Global,
     store: &mut RecordStore,
     plain: &mut Plain,

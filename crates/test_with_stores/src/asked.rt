@@ -12,7 +12,7 @@ use std::alloc::Global;
 use std::marker::Brand;
 use std::sync::ledger::{Blank, Ledger};
 use std::test::Fail;
-use test_with_cases::printed;
+use test_with_cases::val_text;
 use tl_rules::{Level, Part, TlKey, TlValue};
 
 // The key of a text.
@@ -35,7 +35,7 @@ fn key(alloc: Global, asked: &str) -> Result<TlKey, Fail> {
 // A record, if there is one.
 pub(crate) fn maybe_text(alloc: Global, record: Option<&Val>) -> Result<String, Fail> {
     match record {
-        Some(val) => printed(alloc, val),
+        Some(val) => val_text(alloc, val),
         None => text(alloc, "none"),
     }
 }
@@ -55,14 +55,14 @@ pub(crate) fn box_text(alloc: Global, found: Option<Rect>) -> Result<String, Fai
 fn value_text(alloc: Global, value: &TlValue) -> Result<String, Fail> {
     match value {
         TlValue::Rec(record) => maybe_text(alloc, record.as_ref()),
-        TlValue::Ids(ids) => names(alloc, &copied(alloc, ids.parts())?),
+        TlValue::Ids(ids) => names(alloc, &copy_ids(alloc, ids.parts())?),
         TlValue::Number(number) => Ok(format!(in alloc; "{number}")?),
         TlValue::Rect(rect) => box_text(alloc, *rect),
     }
 }
 
 // Copies of the ids of some parts.
-fn copied(alloc: Global, parts: &[Part]) -> Mem<Vec<Text>> {
+fn copy_ids(alloc: Global, parts: &[Part]) -> Mem<Vec<Text>> {
     let mut ids = Vec::new(alloc);
     for part in parts {
         for id in part.as_slice() {
@@ -116,7 +116,7 @@ fn view_in<L: Ledger>(
     requires some { 0 < blank.parts }
 {
     let mut steps = Steps::<L>::new(blank);
-    printed(alloc, &view(alloc, store, asked, &mut steps)?)
+    val_text(alloc, &view(alloc, store, asked, &mut steps)?)
 }
 
 // What the view of a text tells. The steps are counted for nobody.
@@ -161,7 +161,7 @@ fn told_in<L: Ledger>(blank: Blank, alloc: Global, store: &mut RecordStore) -> R
     let mut steps = Steps::<L>::new(blank);
     let mut out = String::new(alloc);
     for (id, val) in &told(alloc, store, &mut steps)? {
-        let part = printed(alloc, val)?;
+        let part = val_text(alloc, val)?;
         add(alloc, &mut out, *id, part.as_str())?;
     }
     Ok(out)

@@ -1,5 +1,5 @@
 //! The calls by which steps change records, and the records that they put.
-use crate::texts::{cut, filled};
+use crate::texts::{cut, with_words};
 use rooms_val::{Text, Val};
 use std::alloc::Global;
 use std::test::Fail;
@@ -63,7 +63,7 @@ impl Call {
 
 // Puts a record of a text under its id, with the words in the places of the text.
 fn put(alloc: Global, text: &str, words: &str) -> Result<Call, Fail> {
-    let found = value(alloc, filled(alloc, text, words)?.as_str())?;
+    let found = value(alloc, with_words(alloc, text, words)?.as_str())?;
     let id = Text::of(alloc, text_at(&found, "id"))?;
     Ok(Call::Put(id, found))
 }

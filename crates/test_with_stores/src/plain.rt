@@ -27,14 +27,14 @@ pub(crate) fn plain_answer(alloc: Global, records: &[Val], query: &str) -> Resul
         "tree" => names(alloc, &tree(alloc, records, id)?),
         "count" => Ok(format!(in alloc; "{}", tree(alloc, records, id)?.len())?),
         "children" => names(alloc, &children(alloc, records, id)?),
-        "bound" => names(alloc, &bound(alloc, records, id)?),
+        "bound" => names(alloc, &bindings_at(alloc, records, id)?),
         "box" => box_text(alloc, box_of(records, id)),
         _ => text(alloc, "no plain query"),
     }
 }
 
 // The bindings with an end at an id.
-fn bound(alloc: Global, records: &[Val], id: &str) -> Mem<Vec<Text>> {
+fn bindings_at(alloc: Global, records: &[Val], id: &str) -> Mem<Vec<Text>> {
     let mut found = Vec::new(alloc);
     for record in records {
         let is_bound = text_at(record, "fromId") == id || text_at(record, "toId") == id;
@@ -65,7 +65,7 @@ fn with_steps_up(records: &[Val], record: &Val, id: &str, mut found: Option<Rect
         inner.x = inner.x.saturating_add(number_at(at, "x"));
         inner.y = inner.y.saturating_add(number_at(at, "y"));
         if text_at(at, "id") == id {
-            found = Some(joined(found, inner));
+            found = Some(box_around(found, inner));
         }
         match record_of(records, text_at(at, "parentId")) {
             Some(parent) => at = parent,
@@ -94,7 +94,7 @@ fn record_of<'a>(records: &'a [Val], id: &str) -> Option<&'a Val> {
 }
 
 // The least box around one, if there is one, and another.
-fn joined(one: Option<Rect>, other: Rect) -> Rect {
+fn box_around(one: Option<Rect>, other: Rect) -> Rect {
     let Some(one) = one else {
         return other;
     };

@@ -20,7 +20,7 @@ use test_with_cases::value;
 fn query(alloc: Global, asked: &str) -> Result<Query, Fail> {
     let mut found = Vec::new(alloc);
     for word in asked.split(' ') {
-        let next = joined(alloc, &mut found, word)?;
+        let next = query_of(alloc, &mut found, word)?;
         found.push(next)?;
     }
     match found.pop() {
@@ -30,7 +30,7 @@ fn query(alloc: Global, asked: &str) -> Result<Query, Fail> {
 }
 
 // The query of a word, with those before it that it joins.
-fn joined(alloc: Global, found: &mut Vec<Query>, word: &str) -> Result<Query, Fail> {
+fn query_of(alloc: Global, found: &mut Vec<Query>, word: &str) -> Result<Query, Fail> {
     let (name, count) = word.split_once(':').unwrap_or(("", ""));
     match name {
         "and" => Ok(Query::And(last(found, count.parse()?)?)),
@@ -64,7 +64,7 @@ fn condition(alloc: Global, word: &str) -> Result<Query, Fail> {
 }
 
 // The ids of a type that meet the query of a text, with an index or without.
-pub(crate) fn found(
+pub(crate) fn ids_text(
     alloc: Global,
     store: &RecordStore,
     asked: &str,
@@ -76,7 +76,7 @@ pub(crate) fn found(
 }
 
 // Brings an index up to a store, where no transaction is open.
-pub(crate) fn refreshed(
+pub(crate) fn refresh_index(
     alloc: Global,
     store: &RecordStore,
     index: &mut FieldIndex,

@@ -1,9 +1,9 @@
 //! The steps of scripts.
 use crate::asked::{ask, due_text, told_text, unwatch, view_text, watch_text};
 use crate::calls::Call;
-use crate::queries::{found, refreshed, since};
+use crate::queries::{ids_text, refresh_index, since};
 use crate::stores::call;
-use crate::texts::{cut, numbered, text};
+use crate::texts::{cut, text, with_number};
 use field_index::FieldIndex;
 use record_store::RecordStore;
 use rooms_val::{Mem, Text};
@@ -52,7 +52,7 @@ fn difference_in(
 ) -> Result<Option<String>, Fail> {
     for row in &rows(alloc, script)? {
         let [step, wanted, ..] = cells(row);
-        let given = played(alloc, store, index, step)?;
+        let given = row_answer(alloc, store, index, step)?;
         if given.as_str() != wanted {
             return Ok(Some(format!(in alloc; "at {step}: {given}, and not {wanted}")?));
         }
@@ -61,7 +61,7 @@ fn difference_in(
 }
 
 // What a row's step gives.
-fn played(
+fn row_answer(
     alloc: Global,
     store: &mut RecordStore,
     index: &mut FieldIndex,
@@ -84,8 +84,8 @@ fn each(
     let (last, step) = cut(rest);
     let mut given = String::new(alloc);
     for number in first.parse::<u32>()?..=last.parse()? {
-        let step = numbered(alloc, step, '@', number)?;
-        let step = numbered(alloc, step.as_str(), '#', number.saturating_sub(1))?;
+        let step = with_number(alloc, step, '@', number)?;
+        let step = with_number(alloc, step.as_str(), '#', number.saturating_sub(1))?;
         given = answer(alloc, store, index, step.as_str())?;
     }
     Ok(given)
@@ -106,9 +106,9 @@ fn answer(
         "unwatch" => unwatch(alloc, store, rest.parse()?),
         "told" => told_text(alloc, store),
         "due" => due_text(alloc, store),
-        "query" => found(alloc, store, rest, None),
-        "find" => found(alloc, store, rest, Some(index)),
-        "refresh" => refreshed(alloc, store, index),
+        "query" => ids_text(alloc, store, rest, None),
+        "find" => ids_text(alloc, store, rest, Some(index)),
+        "refresh" => refresh_index(alloc, store, index),
         "since" => since(alloc, store, index),
         _ => text(alloc, call(alloc, store, Call::read(alloc, step)?)?),
     }

@@ -38,12 +38,12 @@ fn write<D: DocStore>(alloc: Global, store: &mut D, id: &Text, stored: Option<Va
 fn set<D: DocStore>(alloc: Global, store: &mut D, id: &Text, field: Text, value: Val) -> Mem<()>
     ensures { D.begun store.new ≡ D.begun store.old }
 {
-    let patched = patched(alloc, store.get(id.as_str()), field, value)?;
+    let patched = with_field(alloc, store.get(id.as_str()), field, value)?;
     write(alloc, store, id, patched)
 }
 
 // A record with a field set to a value, if there is a record.
-fn patched(alloc: Global, before: Option<&Val>, field: Text, value: Val) -> Mem<Option<Val>> {
+fn with_field(alloc: Global, before: Option<&Val>, field: Text, value: Val) -> Mem<Option<Val>> {
     let Some(Val::Map(fields)) = before else {
         return Ok(None);
     };
@@ -53,7 +53,7 @@ fn patched(alloc: Global, before: Option<&Val>, field: Text, value: Val) -> Mem<
 }
 
 // What is told of a call that opens a transaction: nothing, or that it can't be done.
-fn told(given: Result<(), TxnFault>) -> Result<&'static str, Fail> {
+fn begin_text(given: Result<(), TxnFault>) -> Result<&'static str, Fail> {
     match given {
         Ok(()) => Ok(""),
         Err(TxnFault::TooNested) => Ok("too nested"),
@@ -74,7 +74,7 @@ pub(crate) fn call(
         Call::Put(id, value) => write(alloc, store, &id, Some(value))?,
         Call::Set(id, field, value) => set(alloc, store, &id, field, value)?,
         Call::Take(id) => write(alloc, store, &id, None)?,
-        Call::Begin => return told(store.begin()),
+        Call::Begin => return begin_text(store.begin()),
         Call::Commit => {
             if store.depth() == 0 {
                 return Ok(NONE_IS_OPEN);
@@ -116,7 +116,7 @@ impl Plain {
             Call::Put(id, value) => write(alloc, &mut self.doc, &id, Some(value))?,
             Call::Set(id, field, value) => set(alloc, &mut self.doc, &id, field, value)?,
             Call::Take(id) => write(alloc, &mut self.doc, &id, None)?,
-            Call::Begin => return told(self.begin()),
+            Call::Begin => return begin_text(self.begin()),
             Call::Commit => return Ok(self.commit()),
             Call::Abort => return Ok(self.abort()),
         }

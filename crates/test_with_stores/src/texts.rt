@@ -12,7 +12,7 @@ pub(crate) fn cut(text: &str) -> (&str, &str) {
 }
 
 // A text, with the given words in the places of its `@`, in order.
-pub(crate) fn filled(alloc: Global, text: &str, words: &str) -> Mem<String> {
+pub(crate) fn with_words(alloc: Global, text: &str, words: &str) -> Mem<String> {
     let mut out = String::new(alloc);
     let mut parts = text.split('@');
     out.push_str(parts.next().unwrap_or(""))?;
@@ -24,7 +24,7 @@ pub(crate) fn filled(alloc: Global, text: &str, words: &str) -> Mem<String> {
 }
 
 // A text, with a number in the place of each mark.
-pub(crate) fn numbered(alloc: Global, text: &str, mark: char, number: u32) -> Mem<String> {
+pub(crate) fn with_number(alloc: Global, text: &str, mark: char, number: u32) -> Mem<String> {
     let number = format!(in alloc; "{number}")?;
     let mut out = String::new(alloc);
     let mut parts = text.split(mark);

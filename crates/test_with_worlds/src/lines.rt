@@ -1,16 +1,16 @@
 //! The lines of a recording that a step stands for.
 use std::alloc::Global;
 use std::test::Fail;
-use test_with_boards::expanded;
+use test_with_boards::board_text;
 
 // The lines of a step, one on each line of the text.
 pub(crate) fn lines_of(alloc: Global, step: &str) -> Result<String, Fail> {
-    let text = written(alloc, step)?;
-    expanded(alloc, text.as_str())
+    let text = short_lines(alloc, step)?;
+    board_text(alloc, text.as_str())
 }
 
 // The lines of a step, with short names of records.
-fn written(alloc: Global, step: &str) -> Result<String, Fail> {
+fn short_lines(alloc: Global, step: &str) -> Result<String, Fail> {
     let (word, rest) = cut(step);
     match word {
         "client" => Ok(format!(in alloc; r#"{{"do":"client","version":{rest}}}"#)?),

@@ -14,8 +14,8 @@ use std::alloc::Global;
 use std::marker::Brand;
 use std::sync::ledger::{Blank, Ledger};
 use std::test::Fail;
-use test_with_boards::expanded;
-use test_with_cases::{cells, printed, rows};
+use test_with_boards::board_text;
+use test_with_cases::{cells, rows, val_text};
 use tl_tables::NEWEST_VERSION;
 use world_views::ViewedWorld;
 
@@ -62,7 +62,7 @@ fn difference_at(
     wanted: &str,
 ) -> Result<Option<String>, Fail> {
     let found = answer(alloc, world, step)?;
-    let wanted = expanded(alloc, wanted)?;
+    let wanted = board_text(alloc, wanted)?;
     if found.as_str() == wanted.as_str() {
         return Ok(None);
     }
@@ -92,7 +92,7 @@ fn peer_text(alloc: Global, world: &ViewedWorld, client: u64) -> Result<String, 
     let peer = world.peer(client);
     let clock = peer.reached();
     let owed = peer.owed();
-    let document = printed(alloc, &peer.document(alloc)?)?;
+    let document = val_text(alloc, &peer.document(alloc)?)?;
     Ok(format!(in alloc; "{clock} owes {owed}: {}", document.as_str())?)
 }
 
@@ -111,7 +111,7 @@ fn line_answer(alloc: Global, world: &mut ViewedWorld, line: &str) -> Result<Str
     if !is_playable(&event) {
         return Err(Fail::from("no event that a world plays"));
     }
-    stepped::<Brand>(Blank::new(1), alloc, world, event)
+    step_in::<Brand>(Blank::new(1), alloc, world, event)
 }
 
 // Whether a world plays an event of a recording.
@@ -142,7 +142,7 @@ fn is_move(number: i64) -> bool
     -GREATEST_WHOLE <= number && number <= GREATEST_WHOLE
 }
 
-fn stepped<L: Ledger>(
+fn step_in<L: Ledger>(
     blank: Blank,
     alloc: Global,
     world: &mut ViewedWorld,

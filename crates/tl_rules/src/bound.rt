@@ -22,8 +22,8 @@ pub(crate) fn ask_bound(alloc: Global, id: &Text, got: &[TlValue]) -> Mem<Ask<Tl
     let Some((to, _)) = rest.split_first() else {
         return Ok(Ask::Need(TlKey::BoundTo(id.copy(alloc)?)));
     };
-    let from = copied(alloc, from.parts())?;
-    let to = copied(alloc, to.parts())?;
+    let from = ids_of_parts(alloc, from.parts())?;
+    let to = ids_of_parts(alloc, to.parts())?;
     Ok(Ask::Done(TlValue::Ids(merge(alloc, &from, &to)?)))
 }
 
@@ -68,7 +68,7 @@ fn merge(alloc: Global, left: &[Text], right: &[Text]) -> Mem<Ids>
 }
 
 // Copies of the ids of some parts.
-fn copied(alloc: Global, parts: &[Part]) -> Mem<Vec<Text>>
+fn ids_of_parts(alloc: Global, parts: &[Part]) -> Mem<Vec<Text>>
     ensures { IfOk result (λ ids. ids.items ≡ flat parts.now) }
 {
     let mut ids = Vec::new(alloc);

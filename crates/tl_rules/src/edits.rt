@@ -163,7 +163,7 @@ fn add_items(alloc: Global, parts: &mut Vec<Part>, items: Vec<Text>, hints: Vec<
     if items.len() > MOST_TOGETHER {
         return add_halves(alloc, parts, items, hints);
     }
-    parts.push(Part::hinted(alloc, items, hints)?)?;
+    parts.push(Part::with_hints(alloc, items, hints)?)?;
     Ok(())
 }
 
@@ -176,8 +176,8 @@ fn add_halves(alloc: Global, parts: &mut Vec<Part>, items: Vec<Text>, hints: Vec
     let back = front.split_off(middle)?;
     let mut front_hints = hints;
     let back_hints = front_hints.split_off(middle.min(front_hints.len()))?;
-    parts.push(Part::hinted(alloc, front, front_hints)?)?;
-    parts.push(Part::hinted(alloc, back, back_hints)?)?;
+    parts.push(Part::with_hints(alloc, front, front_hints)?)?;
+    parts.push(Part::with_hints(alloc, back, back_hints)?)?;
     Ok(())
 }
 

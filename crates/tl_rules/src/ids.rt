@@ -42,7 +42,7 @@ impl Part {
     pub fn of(alloc: Global, ids: Vec<Text>) -> Mem<Part>
         ensures { IfOk result (λ part. part ≡ ids.items) }
     {
-        Part::hinted(alloc, ids, Vec::new(alloc))
+        Part::with_hints(alloc, ids, Vec::new(alloc))
     }
 
     /// These ids with their hints, which copies will share.
@@ -50,7 +50,7 @@ impl Part {
     /// # Errors
     ///
     /// Memory was refused.
-    pub fn hinted(alloc: Global, ids: Vec<Text>, hints: Vec<Text>) -> Mem<Part>
+    pub fn with_hints(alloc: Global, ids: Vec<Text>, hints: Vec<Text>) -> Mem<Part>
         ensures { IfOk result (λ part. part ≡ ids.items) }
     {
         Ok(Part {

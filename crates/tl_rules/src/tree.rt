@@ -41,7 +41,7 @@ pub(crate) fn ask_tree(alloc: Global, page: &Text, got: &[TlValue]) -> Mem<Ask<T
     };
     match list_page(&mut walk, page)? {
         Some(parent) => Ok(Ask::Need(TlKey::ByParent(parent.copy(alloc)?))),
-        None => Ok(Ask::Done(TlValue::Ids(copied(alloc, &walk.ids)?))),
+        None => Ok(Ask::Done(TlValue::Ids(copies_of(alloc, &walk.ids)?))),
     }
 }
 
@@ -158,7 +158,7 @@ fn list_each<'a>(walk: &mut Walk<'a>, parts: &'a [Part], levels: u8) -> Mem<Opti
 }
 
 // Copies of the ids.
-fn copied(alloc: Global, ids: &[&Text]) -> Mem<Ids>
+fn copies_of(alloc: Global, ids: &[&Text]) -> Mem<Ids>
     ensures { IfOk result (λ copies. copies ≡ ids_view ids.now) }
 {
     let mut copies = Vec::with_capacity(alloc, ids.len())?;

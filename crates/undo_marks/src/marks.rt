@@ -133,7 +133,7 @@ impl Marks {
             self.begun = Begun::Nothing;
             return Ok(None);
         };
-        let diff = taken.merged(alloc)?;
+        let diff = taken.merged_diff(alloc)?;
         let names = Vec::with_capacity(alloc, dropped)?;
         self.undone.reserve(1)?;
         self.begun = Begun::Undo(names);

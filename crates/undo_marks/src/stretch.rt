@@ -88,16 +88,16 @@ impl Stretch {
     }
 
     /// All of it as one diff, a copy.
-    pub(crate) fn merged(&self, alloc: Global) -> Mem<Diff>
+    pub(crate) fn merged_diff(&self, alloc: Global) -> Mem<Diff>
         ensures merged { IfOk result (λ diff. diff ≡ merge (diffs_of self.now)) }
         ensures plain { IfOk result (λ diff. diff_has_append diff ≡ false) }
         ensures inverses { AreInverses (diffs_of self.now) }
     {
         self.tell_inverses();
         match &self.latest {
-            None => copied(alloc, &self.joined),
+            None => copy_or_empty(alloc, &self.joined),
             Some(latest) => {
-                let mut diff = copied(alloc, &self.joined)?;
+                let mut diff = copy_or_empty(alloc, &self.joined)?;
                 join(alloc, &mut diff, latest)?;
                 Ok(diff)
             }
@@ -114,7 +114,7 @@ impl Stretch {
 }
 
 // A copy of a diff, which is one without operations where there is none.
-fn copied(alloc: Global, diff: &Option<Diff>) -> Mem<Diff>
+fn copy_or_empty(alloc: Global, diff: &Option<Diff>) -> Mem<Diff>
     ensures { IfOk result (λ copy. copy ≡ unwrap_or diff.now []) }
 {
     match diff {

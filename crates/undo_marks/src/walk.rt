@@ -51,7 +51,7 @@ pub(crate) fn since_mark<'a>(
     let mut diff = Diff::new(alloc);
     let mut newer = 0;
     'marks: while let Some((newest, older)) = marked.split_last() {
-        let mut all = last.merged(alloc)?;
+        let mut all = last.merged_diff(alloc)?;
         join(alloc, &mut all, &diff)?;
         diff = all;
         if newest.name.as_str() == name {

@@ -9,7 +9,7 @@ use rooms_val::{Mem, OpFault, Text, Val, Vals};
 use std::alloc::Global;
 
 /// The list of a name alone.
-pub(crate) fn named(alloc: Global, name: &str) -> Mem<Vals>
+pub(crate) fn list_of_name(alloc: Global, name: &str) -> Mem<Vals>
     ensures { IfOk result (λ l. l ≡ text name.now ∷ []) }
 {
     let mut parts = Vals::new(alloc);

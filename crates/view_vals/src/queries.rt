@@ -39,7 +39,7 @@ pub fn read_query(alloc: Global, val: &Val) -> Result<Query, OpFault>
         }
         "and" => Ok(Query::And(read_queries(alloc, single_list(rest)?)?)),
         "or" => Ok(Query::Or(read_queries(alloc, single_list(rest)?)?)),
-        "not" => Ok(Query::Not(boxed(alloc, read_query(alloc, single(rest)?)?)?)),
+        "not" => Ok(Query::Not(boxed_query(alloc, read_query(alloc, single(rest)?)?)?)),
         _ => Err(OpFault::WrongKind),
     }
 }
@@ -68,7 +68,7 @@ fn add(queries: &mut Vec<Query>, query: Query) -> Mem<()>
 }
 
 // A query in a box.
-fn boxed(alloc: Global, query: Query) -> Mem<Box<Query>>
+fn boxed_query(alloc: Global, query: Query) -> Mem<Box<Query>>
     ensures { IfOk result (λ b. b.value ≡ query) }
 {
     Ok(Box::new(alloc, query)?)
@@ -105,7 +105,10 @@ fn queries_val(alloc: Global, queries: &[Query]) -> Mem<Vals>
 fn of_field(alloc: Global, name: &str, field: &Text, value: Val) -> Mem<Val>
     ensures { IfOk result (λ v. data_of v ≡ named name.now (text field.now ∷ data_of value ∷ [])) }
 {
-    let parts = parts::with(parts::named(alloc, name)?, Val::Text(field.copy(alloc)?))?;
+    let parts = parts::with(
+        parts::list_of_name(alloc, name)?,
+        Val::Text(field.copy(alloc)?),
+    )?;
     Ok(Val::List(parts::with(parts, value)?))
 }
 
@@ -113,5 +116,5 @@ fn of_field(alloc: Global, name: &str, field: &Text, value: Val) -> Mem<Val>
 fn of_one(alloc: Global, name: &str, value: Val) -> Mem<Val>
     ensures { IfOk result (λ v. data_of v ≡ named name.now (data_of value ∷ [])) }
 {
-    Ok(Val::List(parts::with(parts::named(alloc, name)?, value)?))
+    Ok(Val::List(parts::with(parts::list_of_name(alloc, name)?, value)?))
 }

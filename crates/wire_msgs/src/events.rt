@@ -100,14 +100,14 @@ fn action_of(alloc: Global, val: &Val) -> Result<Action, OpFault>
         → ¬ (data_of val.now ≡ action_val a))) }
 {
     match val {
-        Val::Text(text) => named(text.as_str()),
+        Val::Text(text) => action_named(text.as_str()),
         Val::Map(fields) => rebase_of(alloc, fields),
         _ => Err(OpFault::WrongKind),
     }
 }
 
 // The action that has a name.
-fn named(name: &str) -> Result<Action, OpFault>
+fn action_named(name: &str) -> Result<Action, OpFault>
     ensures found { IfOk result (λ a. (text name.now ≡ action_val a) × IsProperAction a) }
     ensures refused { IfErr result (Refuses ((a : Action) → IsProperAction a
         → ¬ (text name.now ≡ action_val a))) }

@@ -79,7 +79,7 @@ impl Assembler {
         let Some(read) = read_piece(piece) else {
             return Err(PieceFault::BadPiece);
         };
-        let text = joined(alloc, gathered, read)?;
+        let text = with_piece(alloc, gathered, read)?;
         if text.len() > self.limit {
             return Err(PieceFault::TooLong);
         }
@@ -104,7 +104,11 @@ fn to_come(piece: Piece<'_>) -> u32
 }
 
 // What came so far, with a piece, if that follows it.
-fn joined(alloc: Global, gathered: Option<Gathered>, piece: Piece<'_>) -> Result<String, PieceFault>
+fn with_piece(
+    alloc: Global,
+    gathered: Option<Gathered>,
+    piece: Piece<'_>,
+) -> Result<String, PieceFault>
     ensures { Gives OutOfMemory (λ text. string_bytes text) result
         (joined_in_turn (option_map gathered_of gathered) (tree_of piece.entry)) }
 {
@@ -113,12 +117,12 @@ fn joined(alloc: Global, gathered: Option<Gathered>, piece: Piece<'_>) -> Result
             alloc, text,
         )?),
         (Some(before), Piece::Whole(_)) => Err(PieceFault::OutOfTurn(i64::from(before.next), -1)),
-        (Some(before), Piece::Part(count, part)) => appended(before, count, part),
+        (Some(before), Piece::Part(count, part)) => with_part(before, count, part),
     }
 }
 
 // The parts so far, with one that has the count that comes next.
-fn appended(before: Gathered, count: u32, text: &str) -> Result<String, PieceFault>
+fn with_part(before: Gathered, count: u32, text: &str) -> Result<String, PieceFault>
     ensures { Gives OutOfMemory (λ text. string_bytes text) result
         (joined_in_turn (Some (gathered_of before)) (part count text.now)) }
 {

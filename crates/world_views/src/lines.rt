@@ -11,7 +11,7 @@ use rooms_val::{Mem, Val};
 use std::alloc::Global;
 
 /// The lines of an event of a world.
-pub(crate) fn printed(alloc: Global, lines: Vec<OutLine>) -> Mem<Vec<PrintedLine>>
+pub(crate) fn world_lines(alloc: Global, lines: Vec<OutLine>) -> Mem<Vec<PrintedLine>>
     ensures { IfOk result (λ all. all.items ≡ map printed_line.World lines.items) }
 {
     let mut all = Vec::with_capacity(alloc, lines.len())?;

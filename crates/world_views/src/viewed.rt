@@ -19,7 +19,7 @@ ghost use Rattle.sync_world.specs.Restoring.{IsSinceMark, GoesBack, Shows};
 ghost use Rattle.world_views.specs.Views.{Viewed, nothing_viewed, nobody_viewing, tells, on_event, on_watch, on_query, after_recorded};
 ghost use Rattle.world_views.specs.Standing.{Keeps, MayTell, After, Stands, StepsTo, IsPlayable};
 
-use crate::lines::{add_told, one_line, printed};
+use crate::lines::{add_told, one_line, world_lines};
 use live_views::WatchFault;
 use rec_format::{PrintedLine, RecordedEvent};
 use room_model::fault::StepFault;
@@ -166,7 +166,7 @@ impl ViewedWorld {
         let changed = changed_by(&event);
         match self.world.step(alloc, event, trace, steps) {
             Ok(lines) => {
-                let lines = printed(alloc, lines)?;
+                let lines = world_lines(alloc, lines)?;
                 Ok(Ok(self.tell_changed(alloc, changed, lines, steps)?))
             }
             Err(fault) => Ok(Err(fault)),

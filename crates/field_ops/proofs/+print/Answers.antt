@@ -32,5 +32,5 @@ object_diff::ObjectDiff::to_fields-returns t c =
 
 pub value_op::ValueOp::to_val-returns-in_ok-with-in-Patch : goal.value_op::ValueOp::to_val-returns-in_ok-with-in-Patch
 value_op::ValueOp::to_val-returns-in_ok-with-in-Patch t c =
-    rw c.in-Patch.is (ap (λ l. list (items_of l)) (c.in_ok-with-in-Patch.ensures ∙ (λ i. c.in_ok-named-in-Patch.ensures i ++ map (members_of (c.in_ok-to_fields-in-Patch.ensures i)) ∷ []))
+    rw c.in-Patch.is (ap (λ l. list (items_of l)) (c.in_ok-with-in-Patch.ensures ∙ (λ i. c.in_ok-list_of_name-in-Patch.ensures i ++ map (members_of (c.in_ok-to_fields-in-Patch.ensures i)) ∷ []))
     ∙ ap (λ m. named (codes "patch") (item (map m) no_items)) (members_of-patch_pairs c.in-Patch.diff))

@@ -20,7 +20,7 @@ returns-in_err-old-clause-begun c =
 
 pub returns-clause-old : goal.returns-clause-old
 returns-clause-old c =
-    c.held.ensures ∙ ap held (c.in_ok-old.ensures.old ∙ ap (value_at c.args.slots.now) c.in_ok-key.ensures.ok) ∙ sym (get-present c.args.slots.now c.args.id.now)
+    c.record_in.ensures ∙ ap held (c.in_ok-old.ensures.old ∙ ap (value_at c.args.slots.now) c.in_ok-key.ensures.ok) ∙ sym (get-present c.args.slots.now c.args.id.now)
 
 pub returns-clause-ok : goal.returns-clause-ok
 returns-clause-ok c =

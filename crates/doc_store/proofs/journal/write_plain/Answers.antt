@@ -9,7 +9,7 @@ use Rattle.doc_store.proofs.journal.write_plain.Goals as goal
 
 pub returns-in_ok-put-in-Some-clause-old : goal.returns-in_ok-put-in-Some-clause-old
 returns-in_ok-put-in-Some-clause-old c =
-    c.held.ensures ∙ ap held (c.in_ok-put-in-Some.ensures.old ∙ ap (value_at c.args.slots.now) c.in_ok-from_str-in-Some.ensures.ok) ∙ sym (get-present c.args.slots.now c.args.id.now)
+    c.record_in.ensures ∙ ap held (c.in_ok-put-in-Some.ensures.old ∙ ap (value_at c.args.slots.now) c.in_ok-from_str-in-Some.ensures.ok) ∙ sym (get-present c.args.slots.now c.args.id.now)
 
 pub returns-in_ok-put-in-Some-clause-ok : goal.returns-in_ok-put-in-Some-clause-ok
 returns-in_ok-put-in-Some-clause-ok c =

@@ -26,8 +26,8 @@ apply_object-ops-init t c =
           ∙ ap (λ f. value_after (value_at (patch_view c.as_slice-key-items.result.now) q) (value_at f q)) (sym c.in_ok-result.ensures);
     }
 
-pub apply_object-edited-requires : goal.apply_object-edited-requires
-apply_object-edited-requires t c =
+pub apply_object-edited_val-requires : goal.apply_object-edited_val-requires
+apply_object-edited_val-requires t c =
     let place = depth_place c.as_slice-key-items.result.now c.ops.key-index c.ops-item.result c.ops-test.true c.ops-item.is in
     let same = ap (λ p. edits_depth (edits_of p)) c.as_slice-key-items.ensures.pairs in
     (omega (arith, c.decreases, place, same), tt)

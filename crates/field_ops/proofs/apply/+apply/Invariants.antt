@@ -8,8 +8,8 @@ use Rattle.field_ops.proofs.apply.+apply.Given as goal
 abbrev pub decreases-apply_object : goal.decreases-apply_object
 decreases-apply_object l = 3 * edits_depth (edits_of l.diff.now) + 1
 
-abbrev pub decreases-edited : goal.decreases-edited
-decreases-edited l = 3 * edit_depth (edit_of l.op.now)
+abbrev pub decreases-edited_val : goal.decreases-edited_val
+decreases-edited_val l = 3 * edit_depth (edit_of l.op.now)
 
 abbrev pub decreases-patched_val : goal.decreases-patched_val
 decreases-patched_val l = 3 * edits_depth (edits_of l.diff.now) + 2

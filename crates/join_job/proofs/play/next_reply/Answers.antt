@@ -21,22 +21,22 @@ returns-in-Line-clause-comes g c =
     next_taken script.room c.args.at old.longest (budget old) script.joiner c.take_line.new.self.joiner come further (budget new) new.line c.take_line.result (told c.args.link.now) (told c.take_line.new.link) loses
     (subst (λ l. Tells (LineTo c.args.at script.room l script.joiner c.take_line.result c.take_line.new.self.joiner) (told c.args.link.now) (told c.take_line.new.link)) c.line.ensures.line c.take_line.ensures.comes)
 
-pub returns-in_ok-refused-in-TooLong-clause-comes : goal.returns-in_ok-refused-in-TooLong-clause-comes
-returns-in_ok-refused-in-TooLong-clause-comes g c =
+pub returns-in_ok-fault_reply-in-TooLong-clause-comes : goal.returns-in_ok-fault_reply-in-TooLong-clause-comes
+returns-in_ok-fault_reply-in-TooLong-clause-comes g c =
     let old = c.args.reader.now in
     let come = to_come old (g.S.Source.left c.args.source.now) in
     let script = c.args.script.now in
     let long : IfSome come (λ bytes. BeginsTooLong old.longest (lines_left old.longest (budget old) bytes)) =
     subst (λ n. OnTooLong (Ok n) (IfSome come (λ bytes. BeginsTooLong old.longest (lines_left old.longest (budget old) bytes)))) c.in-TooLong.is c.in_ok-next_line.ensures.too_long in
-    next_too_long script.room c.args.at old.longest (budget old) script.joiner script.joiner come c.in_ok-text-in-TooLong.text c.in_ok-refused-in-TooLong.field-0 (g.K.Link.told c.args.link.now) c.requires long
-    c.in_ok-text-in-TooLong.ensures c.in_ok-refused-in-TooLong.ensures.text c.in_ok-refused-in-TooLong.ensures.end
+    next_too_long script.room c.args.at old.longest (budget old) script.joiner script.joiner come c.in_ok-text-in-TooLong.text c.in_ok-fault_reply-in-TooLong.field-0 (g.K.Link.told c.args.link.now) c.requires long
+    c.in_ok-text-in-TooLong.ensures c.in_ok-fault_reply-in-TooLong.ensures.text c.in_ok-fault_reply-in-TooLong.ensures.end
 
-pub returns-in_ok-refused-in-End-clause-comes : goal.returns-in_ok-refused-in-End-clause-comes
-returns-in_ok-refused-in-End-clause-comes g c =
+pub returns-in_ok-fault_reply-in-End-clause-comes : goal.returns-in_ok-fault_reply-in-End-clause-comes
+returns-in_ok-fault_reply-in-End-clause-comes g c =
     let old = c.args.reader.now in
     let come = to_come old (g.S.Source.left c.args.source.now) in
     let script = c.args.script.now in
     let none : IfSome come (λ bytes. (lines_left old.longest (budget old) bytes ≡ []) × (c.in-End.whole ≡ nat_lt (length bytes) (budget old))) =
     subst (λ n. IfEnd (Ok n) (λ whole. IfSome come (λ bytes. (lines_left old.longest (budget old) bytes ≡ []) × (whole ≡ nat_lt (length bytes) (budget old))))) c.in-End.is c.in_ok-next_line.ensures.end in
-    none_next script.room c.args.at old.longest (budget old) script.joiner script.joiner come c.in-End.whole c.in_ok-text-in-End.text c.in_ok-refused-in-End.field-0 (g.K.Link.told c.args.link.now) none
-    c.in_ok-text-in-End.ensures c.in_ok-refused-in-End.ensures.text c.in_ok-refused-in-End.ensures.end
+    none_next script.room c.args.at old.longest (budget old) script.joiner script.joiner come c.in-End.whole c.in_ok-text-in-End.text c.in_ok-fault_reply-in-End.field-0 (g.K.Link.told c.args.link.now) none
+    c.in_ok-text-in-End.ensures c.in_ok-fault_reply-in-End.ensures.text c.in_ok-fault_reply-in-End.ensures.end

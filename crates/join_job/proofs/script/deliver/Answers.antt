@@ -17,13 +17,13 @@ returns-in-Ok-clause-comes g c =
     delivered c.args.at c.args.joiner.now c.deliver.new.self c.follow.new.joiner c.has_lost-is_lost.result c.in-Ok.lines c.follow.result (told c.args.link.now) (told c.deliver.new.link) (told c.follow.new.link)
     c.has_lost-is_lost.ensures c.if-is_lost.false (c.in_ok-delivery.ensures.unsaid, λ schemas client stands. subst (λ d. Tells (Waited schemas client (Ok d) c.deliver.new.self) (told c.args.link.now) (told c.deliver.new.link)) c.in-Ok.is (c.in_ok-delivery.ensures.waited schemas client stands)) c.follow.ensures.comes
 
-pub returns-in_ok-refused-in-Err-clause-comes : goal.returns-in_ok-refused-in-Err-clause-comes
-returns-in_ok-refused-in-Err-clause-comes g c =
+pub returns-in_ok-fault_reply-in-Err-clause-comes : goal.returns-in_ok-fault_reply-in-Err-clause-comes
+returns-in_ok-fault_reply-in-Err-clause-comes g c =
     let told = g.K.Link.told in
-    not_delivered c.args.at c.args.joiner.now c.deliver.new.self c.deliver.new.self c.has_lost-is_lost.result c.in-Err.text c.in_ok-refused-in-Err.field-0 (told c.args.link.now) (told c.deliver.new.link)
-    c.has_lost-is_lost.ensures c.if-is_lost.false (c.in_ok-delivery.ensures.unsaid, λ schemas client stands. subst (λ d. Tells (Waited schemas client (Ok d) c.deliver.new.self) (told c.args.link.now) (told c.deliver.new.link)) c.in-Err.is (c.in_ok-delivery.ensures.waited schemas client stands)) c.in_ok-refused-in-Err.ensures.text c.in_ok-refused-in-Err.ensures.end
+    not_delivered c.args.at c.args.joiner.now c.deliver.new.self c.deliver.new.self c.has_lost-is_lost.result c.in-Err.text c.in_ok-fault_reply-in-Err.field-0 (told c.args.link.now) (told c.deliver.new.link)
+    c.has_lost-is_lost.ensures c.if-is_lost.false (c.in_ok-delivery.ensures.unsaid, λ schemas client stands. subst (λ d. Tells (Waited schemas client (Ok d) c.deliver.new.self) (told c.args.link.now) (told c.deliver.new.link)) c.in-Err.is (c.in_ok-delivery.ensures.waited schemas client stands)) c.in_ok-fault_reply-in-Err.ensures.text c.in_ok-fault_reply-in-Err.ensures.end
 
 pub returns-then-is_lost-clause-comes : goal.returns-then-is_lost-clause-comes
 returns-then-is_lost-clause-comes g c =
-    waits_no_more c.args.at c.args.joiner.now c.args.joiner.now c.has_lost-is_lost.result c.in_ok-text.text c.in_ok-refused.field-0 (g.K.Link.told c.args.link.now)
-    c.has_lost-is_lost.ensures c.if-is_lost.true c.in_ok-text.ensures c.in_ok-refused.ensures.text c.in_ok-refused.ensures.end
+    waits_no_more c.args.at c.args.joiner.now c.args.joiner.now c.has_lost-is_lost.result c.in_ok-text.text c.in_ok-fault_reply.field-0 (g.K.Link.told c.args.link.now)
+    c.has_lost-is_lost.ensures c.if-is_lost.true c.in_ok-text.ensures c.in_ok-fault_reply.ensures.text c.in_ok-fault_reply.ensures.end

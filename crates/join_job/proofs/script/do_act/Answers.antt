@@ -16,13 +16,13 @@ returns-in-Ok-clause-comes g c =
     acted c.args.at c.args.act c.args.joiner.now c.act.new.self c.follow.new.joiner c.in-Ok.lines c.follow.result (told c.args.link.now) (told c.follow.new.link)
     (λ schemas client stands. subst (λ r. Answers schemas (acts schemas c.args.act client) r c.act.new.self) c.in-Ok.is (c.in_ok-answer.ensures schemas client stands)) c.follow.ensures.comes
 
-pub returns-in_err-refused-in-Err-clause-comes : goal.returns-in_err-refused-in-Err-clause-comes
-returns-in_err-refused-in-Err-clause-comes g c =
-    let p = err_from_is_err_and c.from_residual-in_err-refused-in-Err.result c.from_residual-in_err-refused-in-Err.ensures.1 in
+pub returns-in_err-fault_reply-in-Err-clause-comes : goal.returns-in_err-fault_reply-in-Err-clause-comes
+returns-in_err-fault_reply-in-Err-clause-comes g c =
+    let p = err_from_is_err_and c.from_residual-in_err-fault_reply-in-Err.result c.from_residual-in_err-fault_reply-in-Err.ensures.1 in
     rw p.1 (cut_off _ (g.K.Link.told c.args.link.now) (λ x schemas client stands. inl refl))
 
-pub returns-in_ok-refused-in-Err-clause-comes : goal.returns-in_ok-refused-in-Err-clause-comes
-returns-in_ok-refused-in-Err-clause-comes g c =
-    not_acted c.args.at c.args.act c.args.joiner.now c.act.new.self c.act.new.self c.in-Err.text c.in_ok-refused-in-Err.field-0 (g.K.Link.told c.args.link.now)
+pub returns-in_ok-fault_reply-in-Err-clause-comes : goal.returns-in_ok-fault_reply-in-Err-clause-comes
+returns-in_ok-fault_reply-in-Err-clause-comes g c =
+    not_acted c.args.at c.args.act c.args.joiner.now c.act.new.self c.act.new.self c.in-Err.text c.in_ok-fault_reply-in-Err.field-0 (g.K.Link.told c.args.link.now)
     (λ schemas client stands. subst (λ r. Answers schemas (acts schemas c.args.act client) r c.act.new.self) c.in-Err.is (c.in_ok-answer.ensures schemas client stands))
-    c.in_ok-refused-in-Err.ensures.text c.in_ok-refused-in-Err.ensures.end
+    c.in_ok-fault_reply-in-Err.ensures.text c.in_ok-fault_reply-in-Err.ensures.end

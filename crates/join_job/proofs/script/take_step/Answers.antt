@@ -15,7 +15,7 @@ returns-in-Ok-clause-comes g c =
     taken c.args.at c.args.line.now c.in-Ok.step c.args.joiner.now c.do_step.new.joiner c.do_step.result (told c.args.link.now) (told c.do_step.new.link)
     (subst (IsRead c.args.line.now) c.in-Ok.is c.in_ok-found.ensures) c.do_step.ensures.comes
 
-pub returns-in_ok-refused-in-Err-clause-comes : goal.returns-in_ok-refused-in-Err-clause-comes
-returns-in_ok-refused-in-Err-clause-comes g c =
-    not_taken c.args.at c.args.line.now c.in-Err.text c.args.joiner.now c.args.joiner.now c.in_ok-refused-in-Err.field-0 (g.K.Link.told c.args.link.now)
-    (subst (IsRead c.args.line.now) c.in-Err.is c.in_ok-found.ensures) c.in_ok-refused-in-Err.ensures.text c.in_ok-refused-in-Err.ensures.end
+pub returns-in_ok-fault_reply-in-Err-clause-comes : goal.returns-in_ok-fault_reply-in-Err-clause-comes
+returns-in_ok-fault_reply-in-Err-clause-comes g c =
+    not_taken c.args.at c.args.line.now c.in-Err.text c.args.joiner.now c.args.joiner.now c.in_ok-fault_reply-in-Err.field-0 (g.K.Link.told c.args.link.now)
+    (subst (IsRead c.args.line.now) c.in-Err.is c.in_ok-found.ensures) c.in_ok-fault_reply-in-Err.ensures.text c.in_ok-fault_reply-in-Err.ensures.end

@@ -4,8 +4,8 @@ use Rattle.link_texts.proofs.HearingLemmas.{refuses_taken}
 use Rattle.rooms_val.proofs.Truths.{err_as}
 use Rattle.link_texts.proofs.hearing.hear.Goals as goal
 
-pub returns-in_err-taken-clause-refused : goal.returns-in_err-taken-clause-refused
-returns-in_err-taken-clause-refused c =
-    let fault = c.in_err-taken.field-0.0 in
+pub returns-in_err-take_piece-clause-refused : goal.returns-in_err-take_piece-clause-refused
+returns-in_err-take_piece-clause-refused c =
+    let fault = c.in_err-take_piece.field-0.0 in
     err_as (IfRefused (Refuses c.args.assembler.now c.args.bytes.now)) c.from_residual.result (fault_of_piece fault) c.from_residual.ensures.1
-    (refuses_taken c.args.assembler.now c.args.bytes.now fault c.in_err-taken.ensures.refused)
+    (refuses_taken c.args.assembler.now c.args.bytes.now fault c.in_err-take_piece.ensures.refused)

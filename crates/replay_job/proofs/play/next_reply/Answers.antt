@@ -38,12 +38,12 @@ returns-in_ok-of-in-TooLong-clause-next g c = λ progress reads.
     subst (λ n. OnTooLong (Ok n) (IfSome come (λ bytes. BeginsTooLong old.longest (lines_left old.longest (budget old) bytes)))) c.in-TooLong.is c.in_ok-next_line.ensures.too_long in
     proceeds_too_long c.args.replay.now.trace progress old.longest (budget old) (budget new) come (to_come new (left c.next_line.new.source)) c.in_ok-of-in-TooLong.field-0 c.args.replay.now.world c.requires long c.in_ok-of-in-TooLong.ensures reads
 
-pub returns-in_ok-unended-in-End-clause-next : goal.returns-in_ok-unended-in-End-clause-next
-returns-in_ok-unended-in-End-clause-next g c = λ progress reads.
+pub returns-in_ok-no_end_text-in-End-clause-next : goal.returns-in_ok-no_end_text-in-End-clause-next
+returns-in_ok-no_end_text-in-End-clause-next g c = λ progress reads.
     let left = g.S.Source.left in
     let old = c.args.reader.now in
     let new = c.next_line.new.self in
     let come = to_come old (left c.args.source.now) in
     let none : IfSome come (λ bytes. (lines_left old.longest (budget old) bytes ≡ []) × (c.in-End.whole ≡ nat_lt (length bytes) (budget old))) =
     subst (λ n. IfEnd (Ok n) (λ whole. IfSome come (λ bytes. (lines_left old.longest (budget old) bytes ≡ []) × (whole ≡ nat_lt (length bytes) (budget old))))) c.in-End.is c.in_ok-next_line.ensures.end in
-    proceeds_to_end c.args.replay.now.trace progress old.longest (budget old) (budget new) come (to_come new (left c.next_line.new.source)) c.in-End.whole c.in_ok-unended-in-End.field-0 c.args.replay.now.world none c.in_ok-unended-in-End.ensures reads
+    proceeds_to_end c.args.replay.now.trace progress old.longest (budget old) (budget new) come (to_come new (left c.next_line.new.source)) c.in-End.whole c.in_ok-no_end_text-in-End.field-0 c.args.replay.now.world none c.in_ok-no_end_text-in-End.ensures reads

@@ -20,8 +20,8 @@ use Rattle.room_accept.specs.declared.size.DocumentSize.{DocumentSize}
 use Rattle.room_accept.proofs.PartLemmas.{part_pushed, rising-other}
 use Rattle.room_accept.proofs.part.accept_one.Goals as goal
 
-pub added-requires : goal.added-requires
-added-requires c = rising-other c.args.part.diff c.args.id.now (change_of c.args.op.now) (change_of c.in_ok-op.op) [] c.requires.later
+pub with_later_op-requires : goal.with_later_op-requires
+with_later_op-requires c = rising-other c.args.part.diff c.args.id.now (change_of c.args.op.now) (change_of c.in_ok-op.op) [] c.requires.later
 
 pub left_by-requires : goal.left_by-requires
 left_by-requires c =
@@ -55,7 +55,7 @@ returns-in-Some c =
     let later = rising-other part.diff id (change_of c.args.op.now) op [] c.requires.later in
     let wanted = with_tried s part.size part.diff id (tried_op (decided s) (plan_of c.args.plan.now) (change_of c.args.op.now) (value_at m id)) (value_at m id) in
     let pushed : part.diff ++ (id, op) ∷ [] ≡ wanted = sym (ap (λ b. cond b (part.diff ++ (id, op) ∷ []) part.diff) judged.0) ∙ ap (λ o. with_tried s part.size part.diff id o (value_at m id)) tries in
-    elim c.added.result as (λ x. IfOk x (λ n. n.diff ≡ part.diff ++ (id, op) ∷ []) → IfOk x (λ n. n.after.items ≡ part.after.items ++ (id, c.in-Some.left.0) ∷ []) → IfOk x (λ n. n.size ≡ c.in-Some.left.1)
+    elim c.with_later_op.result as (λ x. IfOk x (λ n. n.diff ≡ part.diff ++ (id, op) ∷ []) → IfOk x (λ n. n.after.items ≡ part.after.items ++ (id, c.in-Some.left.0) ∷ []) → IfOk x (λ n. n.size ≡ c.in-Some.left.1)
     → record { diff : IfOk x (λ n. n.diff ≡ wanted); part : IfOk x (IsPart s m); sound : IfOk x (λ _. AreRising m) }) [
       | Ok next ↦ λ diff after size. record {
         diff = diff ∙ pushed;
@@ -63,7 +63,7 @@ returns-in-Some c =
         sound = rising_pairs m c.get-before.ensures.sound;
       }
       | Err e ↦ λ diff after size. record { diff = tt; part = tt; sound = tt }
-    ] c.added.ensures.diff c.added.ensures.after c.added.ensures.size
+    ] c.with_later_op.ensures.diff c.with_later_op.ensures.after c.with_later_op.ensures.size
 
 pub returns-in-None : goal.returns-in-None
 returns-in-None c =

@@ -59,12 +59,12 @@ returns-in_ok-too_long-in-TooLong-clause-begins g c =
     line_too_long first.longest (budget first) (budget mid) (budget mid) come come mid.line old c.in-TooLong.at snap.LineTooLong c.in_ok-too_long-in-TooLong.field-0 seeks
     (λ long more. subst (λ l. l < length long) c.requires.longest more) (ap Some (sym c.in_ok-too_long-in-TooLong.ensures))
 
-pub returns-in_ok-unended-in-End-clause-begins : goal.returns-in_ok-unended-in-End-clause-begins
-returns-in_ok-unended-in-End-clause-begins g c =
+pub returns-in_ok-no_end_text-in-End-clause-begins : goal.returns-in_ok-no_end_text-in-End-clause-begins
+returns-in_ok-no_end_text-in-End-clause-begins g c =
     let left = g.S.Source.left in
     let first = c.args.reader.now in
     let mid = c.seek.new.reader in
     let old = to_come first (left c.args.source.now) in
     let come = to_come mid (left c.seek.new.source) in
     let seeks = subst (λ s. Seeks snapshot.LONGEST_LINE first.longest 1 (budget first) old (budget mid) come mid.line s) c.in-End.is c.in_ok-sought.ensures.found in
-    line_missing first.longest (budget first) (budget mid) (budget mid) come come mid.line old c.in-End.at c.in-End.whole c.in_ok-unended-in-End.field-0 seeks c.in_ok-unended-in-End.ensures
+    line_missing first.longest (budget first) (budget mid) (budget mid) come come mid.line old c.in-End.at c.in-End.whole c.in_ok-no_end_text-in-End.field-0 seeks c.in_ok-no_end_text-in-End.ensures

@@ -50,12 +50,12 @@ returns-in_ok-too_long-in-TooLong-clause-begins g c =
     header_too_long (line_of c.args.from c.args.snapshot) first.longest (budget first) (budget mid) come mid.line old c.in-TooLong.at c.in_ok-too_long-in-TooLong.field-0 seeks
     (λ long more. (of_line.LineTooLong, omega (arith, c.requires.wide, more), ap Some (sym c.in_ok-too_long-in-TooLong.ensures)))
 
-pub returns-in_ok-unended-in-End-clause-begins : goal.returns-in_ok-unended-in-End-clause-begins
-returns-in_ok-unended-in-End-clause-begins g c =
+pub returns-in_ok-no_end_text-in-End-clause-begins : goal.returns-in_ok-no_end_text-in-End-clause-begins
+returns-in_ok-no_end_text-in-End-clause-begins g c =
     let left = g.S.Source.left in
     let first = c.args.reader.now in
     let mid = c.seek.new.reader in
     let old = to_come first (left c.args.source.now) in
     let come = to_come mid (left c.seek.new.source) in
     let seeks = subst (λ s. Seeks format.LONGEST_LINE first.longest (c.args.from + 1) (budget first) old (budget mid) come mid.line s) c.in-End.is c.in_ok-sought.ensures.found in
-    header_missing (line_of c.args.from c.args.snapshot) first.longest (budget first) (budget mid) come mid.line old c.in-End.at c.in-End.whole c.in_ok-unended-in-End.field-0 seeks c.in_ok-unended-in-End.ensures
+    header_missing (line_of c.args.from c.args.snapshot) first.longest (budget first) (budget mid) come mid.line old c.in-End.at c.in-End.whole c.in_ok-no_end_text-in-End.field-0 seeks c.in_ok-no_end_text-in-End.ensures

@@ -8,4 +8,4 @@ use Rattle.store_query.proofs.asking.by_walk.Goals as goal
 pub returns : goal.returns
 returns g c =
     let m = g.D.DocStore.records c.args.store.now in
-    subst (λ want. IfOk c.met.result (λ ids. ids.items ≡ want)) (ap (filter (meets_at m c.args.query.now)) c.in_ok-ids.ensures ∙ walk_is m c.args.type_name.now c.args.query.now c.tell_rising.ensures) c.met.ensures
+    subst (λ want. IfOk c.ids_that_meet.result (λ ids. ids.items ≡ want)) (ap (filter (meets_at m c.args.query.now)) c.in_ok-ids.ensures ∙ walk_is m c.args.type_name.now c.args.query.now c.tell_rising.ensures) c.ids_that_meet.ensures

@@ -14,6 +14,6 @@ returns-in-Some c =
 
 pub returns : goal.returns
 returns c =
-    ap (λ (ids : List (List ℕ)). Done (value.Ids ids)) (c.in_ok-copied-in-None.ensures ∙ ap ids_view c.deref.ensures.value)
+    ap (λ (ids : List (List ℕ)). Done (value.Ids ids)) (c.in_ok-copies_of-in-None.ensures ∙ ap ids_view c.deref.ensures.value)
     ∙ tree_listed c.args.page.now c.args.got.now (ids_view c.list_page.new.walk.ids.items) c.list_page.new.walk.rest.now (ids_view c.new.result.items) (id_view c.in_ok-parent.field-0)
     (ap ids_view c.new.ensures.items) (ap id_view c.in-None.is) c.in_ok-parent.ensures

@@ -39,7 +39,7 @@ returns-in_ok-send_all-in-Ok-clause-comes g c =
     c.in-Ok.ensures.found c.in_ok-joiner-in-Ok.ensures.stands (says c.deref.ensures.value c.args.self.now.room version c.in_ok-joiner-in-Ok.ensures.said) c.in_ok-send_all-in-Ok.ensures.sent
     c.nothing.ensures.text c.nothing.ensures.end c.replace.ensures.after
 
-pub returns-in_ok-refused-in-Err-clause-comes : goal.returns-in_ok-refused-in-Err-clause-comes
-returns-in_ok-refused-in-Err-clause-comes g c =
-    not_joined c.args.at c.args.self.now.room c.args.line.now c.in-Err.fault c.in_ok-text-in-Err.text c.in_ok-refused-in-Err.field-0 c.args.self.now.joiner (g.K.Link.told c.args.link.now)
-    c.in-Err.ensures.refused c.in_ok-text-in-Err.ensures c.in_ok-refused-in-Err.ensures.text c.in_ok-refused-in-Err.ensures.end
+pub returns-in_ok-fault_reply-in-Err-clause-comes : goal.returns-in_ok-fault_reply-in-Err-clause-comes
+returns-in_ok-fault_reply-in-Err-clause-comes g c =
+    not_joined c.args.at c.args.self.now.room c.args.line.now c.in-Err.fault c.in_ok-text-in-Err.text c.in_ok-fault_reply-in-Err.field-0 c.args.self.now.joiner (g.K.Link.told c.args.link.now)
+    c.in-Err.ensures.refused c.in_ok-text-in-Err.ensures c.in_ok-fault_reply-in-Err.ensures.text c.in_ok-fault_reply-in-Err.ensures.end

@@ -19,7 +19,7 @@ invariant_of-result c =
 
 pub returns-clause-rising : goal.returns-clause-rising
 returns-clause-rising c =
-    ap have_rising_ids c.in_ok-sequences.ensures ∙ rising-by_id c.args.list.items (ap doubled (sym c.deref-3.ensures.value) ∙ sym c.in_default-doubled.ensures)
+    ap have_rising_ids c.in_ok-sequences.ensures ∙ rising-by_id c.args.list.items (ap doubled (sym c.deref-3.ensures.value) ∙ sym c.in_default-doubled_id.ensures)
 
 pub returns-clause-same : goal.returns-clause-same
 returns-clause-same c test = ap (count_by test) c.in_ok-sequences.ensures ∙ count-by_id test c.args.list.items

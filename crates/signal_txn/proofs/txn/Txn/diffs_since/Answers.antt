@@ -11,4 +11,4 @@ returns-clause-all g c = λ history keeps.
     let k : KeepEach history levels c.self.inside.ring c.self.inside.graph.values.epoch =
     subst (λ (s : Seen g.row.R.Denot g.row.R-Key.Denot g.row.R-Value.Denot). Keeps history s.journal s.graph.values.epoch) (sym c.self.view_is) keeps in
     c.in_ok-copies_after.ensures
-    ∙ diffs-all c.args.epoch history levels c.self.inside.ring c.self.inside.graph.values.epoch k (omega (arith, c.dropped.ensures, c.if-epoch-dropped.false))
+    ∙ diffs-all c.args.epoch history levels c.self.inside.ring c.self.inside.graph.values.epoch k (omega (arith, c.dropped_epoch.ensures, c.if-epoch-dropped_epoch.false))

@@ -41,5 +41,5 @@ pub returns-clause-ok : goal.returns-clause-ok
 returns-clause-ok g c = λ state session stands asks.
     let records = g.D.DocStore.records in
     let old = c.args.self.now in
-    after_snapshot records state old c.take_snapshot.new.self c.restart.new.self session c.args.hydration c.args.diff.now c.args.clock (to_z w64 (of_z w64 c.args.clock)) (maybe_data c.in_ok-own.own) c.opened-self.result stands asks
-    (to_z-of_z w64 c.args.clock c.ranges.clock) c.opened-self.ensures c.in_ok-own.ensures (c.in_ok-take_snapshot.ensures.ok (replica_of state) stands.replica) c.restart.ensures.pushes c.restart.ensures.sent
+    after_snapshot records state old c.take_snapshot.new.self c.restart.new.self session c.args.hydration c.args.diff.now c.args.clock (to_z w64 (of_z w64 c.args.clock)) (maybe_data c.in_ok-own.own) c.opened_connection-self.result stands asks
+    (to_z-of_z w64 c.args.clock c.ranges.clock) c.opened_connection-self.ensures c.in_ok-own.ensures (c.in_ok-take_snapshot.ensures.ok (replica_of state) stands.replica) c.restart.ensures.pushes c.restart.ensures.sent

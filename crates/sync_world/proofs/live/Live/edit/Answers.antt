@@ -18,14 +18,14 @@ returns-in_ok-push-in-Ok-clause-step g c = λ schemas world keeps.
     c.args.wanted.now c.in-Ok.ensures.ok c.push.new.self c.in_ok-push-in-Ok.ensures.pushed c.in_ok-push-in-Ok.ensures.given c.new.result c.new.ensures.items)
 
 pub returns-in-Err-clause-step : goal.returns-in-Err-clause-step
-returns-in-Err-clause-step g c = IfOk-weaker c.refused.result _ _
+returns-in-Err-clause-step g c = IfOk-weaker c.refusal_of.result _ _
     (λ answer is. λ schemas world keeps.
     let mid = record c.args.self.now { clients = with_item c.args.self.now.clients c.in-Some.at (record c.index_mut.result.now { peer = c.edit.new.self }) } in
     subst (λ a. Answers schemas world (on_edit schemas c.args.number c.args.wanted.now world) a mid) (sym is.0)
     (subst (λ n. Answers schemas world (on_edit schemas n c.args.wanted.now world) (Err (Edit c.in-Err.fault)) mid) c.in-Some.ensures.found.0
     (edit_refused schemas world c.args.self.now keeps c.in-Some.at c.index_mut.result.now c.in-Some.ensures.found.1 c.index_mut.ensures.value c.edit.new.self mid refl refl refl
     c.args.wanted.now c.in-Err.fault (λ s state stands. c.in-Err.ensures.fault s state stands is.1) c.in-Err.ensures.err)))
-    c.refused.ensures
+    c.refusal_of.ensures
 
 pub returns-in_ok-push-in-Ok-clause-stores : goal.returns-in_ok-push-in-Ok-clause-stores
 returns-in_ok-push-in-Ok-clause-stores g c =
@@ -35,7 +35,7 @@ returns-in_ok-push-in-Ok-clause-stores g c =
     c.in-Some.ensures.found.1 c.index_mut.ensures.value WatchAlike c.edit.ensures.views))
 
 pub returns-in-Err-clause-stores : goal.returns-in-Err-clause-stores
-returns-in-Err-clause-stores g c = on_ok_anyway c.refused.result _
+returns-in-Err-clause-stores g c = on_ok_anyway c.refusal_of.result _
     (subst (λ n. ChangesOne n (stores_in c.args.self.now)
     (stores_kept (slice_set c.args.self.now.clients.items c.in-Some.at (record c.index_mut.result.now { peer = c.edit.new.self })))) c.in-Some.ensures.found.0
     (one_changes c.args.self.now c.in-Some.at c.index_mut.result.now (record c.index_mut.result.now { peer = c.edit.new.self })

@@ -22,7 +22,7 @@ returns-clause-step g c schemas world keeps =
     let said = c.in-Some-take_sent.message in
     let replies = subst (λ (s : WorldSchemas EditFault). room_of.Replies (model.after_message s.room world.room c.in-Some.id.number said) c.in_ok-handle.field-0 c.handle.new.self) (sym keeps.fits.decided)
     (c.in_ok-handle.ensures.step world.room keeps.fits.room) in
-    handle_done schemas world c.args.self.now keeps c.args.session here.0 there c.args.trace said c.in_ok-handle.field-0 c.in_ok-traced.field-0
-    c.in-Some-take_sent.ensures.first c.in_ok-traced.ensures _
+    handle_done schemas world c.args.self.now keeps c.args.session here.0 there c.args.trace said c.in_ok-handle.field-0 c.in_ok-traced_lines.field-0
+    c.in-Some-take_sent.ensures.first c.in_ok-traced_lines.ensures _
     (subst (λ n. room_of.Replies (model.after_message schemas.room world.room n said) c.in_ok-handle.field-0 c.handle.new.self) found.0 replies)
     c.in_ok-handle.ensures.schema refl c.in-Some-take_sent.ensures.rest c.in-Some-take_sent.ensures.given

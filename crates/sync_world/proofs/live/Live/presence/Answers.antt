@@ -17,7 +17,7 @@ returns-in_ok-push-in-Ok-clause-step c = λ schemas world keeps.
     c.args.stored c.in-Ok.ensures.fault c.in-Ok.ensures.ok c.push.new.self c.in_ok-push-in-Ok.ensures.pushed c.in_ok-push-in-Ok.ensures.given c.new.result c.new.ensures.items)
 
 pub returns-in-Err-clause-step : goal.returns-in-Err-clause-step
-returns-in-Err-clause-step c = IfOk-weaker c.refused.result _ _
+returns-in-Err-clause-step c = IfOk-weaker c.refusal_of.result _ _
     (λ answer is. λ schemas world keeps.
     let mid = record c.args.self.now { clients = with_item c.args.self.now.clients c.in-Some.at (record c.index_mut.result.now { peer = c.presence.new.self }) } in
     let fault = c.edit_fault.result in
@@ -25,7 +25,7 @@ returns-in-Err-clause-step c = IfOk-weaker c.refused.result _ _
     (subst (λ n. Answers schemas world (on_presence schemas n (data_of c.args.stored) world) (Err (Edit fault)) mid) c.in-Some.ensures.found.0
     (presence_refused schemas world c.args.self.now keeps c.in-Some.at c.index_mut.result.now c.in-Some.ensures.found.1 c.index_mut.ensures.value c.presence.new.self mid refl refl refl
     c.args.stored fault (λ s state stands. c.in-Err.ensures.fault s state stands (λ oom. is.1 (c.edit_fault.ensures ∙ oom)) ∙ ap (λ f. Err f) (sym c.edit_fault.ensures)) c.in-Err.ensures.err)))
-    c.refused.ensures
+    c.refusal_of.ensures
 
 pub returns-in_ok-push-in-Ok-clause-stores : goal.returns-in_ok-push-in-Ok-clause-stores
 returns-in_ok-push-in-Ok-clause-stores c =
@@ -34,6 +34,6 @@ returns-in_ok-push-in-Ok-clause-stores c =
     c.in-Some.ensures.found.1 c.index_mut.ensures.value c.presence.ensures.store
 
 pub returns-in-Err-clause-stores : goal.returns-in-Err-clause-stores
-returns-in-Err-clause-stores c = on_ok_anyway c.refused.result _
+returns-in-Err-clause-stores c = on_ok_anyway c.refusal_of.result _
     (same_stores c.args.self.now c.in-Some.at c.index_mut.result.now (record c.index_mut.result.now { peer = c.presence.new.self })
     c.in-Some.ensures.found.1 c.index_mut.ensures.value c.presence.ensures.store)
