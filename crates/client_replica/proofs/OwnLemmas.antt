@@ -16,7 +16,7 @@ use Rattle.field_ops.specs.RecordOps.{RecordOps}
 use Rattle.doc_model.specs.Documents.{step_at, step, replay}
 use Rattle.doc_model.specs.Inverses.{record_after}
 use Rattle.doc_model.proofs.InverseLemmas.{at-step_at}
-use Rattle.doc_store.specs.Slots.{Slots, held}
+use Rattle.doc_store.specs.Slots.{Slots}
 use Rattle.client_replica.specs.Works.{operations}
 use Rattle.client_replica.specs.Stashes.{under, is_named, IsStash}
 use Rattle.client_replica.specs.NewBases.{IsLaid, NamesWithin}

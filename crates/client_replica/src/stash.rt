@@ -7,7 +7,7 @@ ghost use Rattle.field_ops.specs.ViewRecordOps.{change_of};
 ghost use Rattle.schema_core.specs.Admits.{is_admitted};
 ghost use Rattle.schema_core.specs.SchemaOf.{schema_tree};
 ghost use Rattle.doc_model.specs.Inverses.{record_after};
-ghost use Rattle.doc_store.specs.Slots.{held};
+ghost use Rattle.doc_store.specs.Slots.{slot_record};
 ghost use Rattle.doc_model.specs.Documents.{replay};
 ghost use Rattle.rooms_val.specs.Data.{Pairs};
 ghost use Rattle.client_replica.specs.NewBases.{laid, IsOf, NamesWithin};
@@ -93,7 +93,7 @@ impl Stash {
 
     // The record that it holds under an id. `None` exactly where there is none, or it doesn't hold the id.
     fn get(&self, id: &str) -> Option<&Val>
-        ensures { maybe_data (option_copied result) ≡ held (value_at self.now id.now) }
+        ensures { maybe_data (option_copied result) ≡ slot_record (value_at self.now id.now) }
     {
         match self.tree.get(id) {
             Some(slot) => slot.as_ref(),

@@ -7,7 +7,7 @@ use Rattle.rooms_val.specs.Data.{Data, Pairs}
 use Rattle.rooms_val.specs.Maps.{order, AreRising, with_key, set_at}
 use Rattle.rooms_val.proofs.MapsLemmas.{first, second, less, rising_rest, none_later}
 use Rattle.rooms_val.proofs.Truths.{and_holds}
-use Rattle.doc_store.specs.Slots.{Slots, held, present}
+use Rattle.doc_store.specs.Slots.{Slots, slot_record, present}
 use Rattle.doc_store.proofs.SlotLaws.{present-empty, present-without_key}
 
 below-put : (k id : List ℕ) (m : Pairs) (d : Data) → T (is_lt (order k id)) → T (below_all order k m) → T (below_all order k (with_key m id d))
@@ -47,6 +47,6 @@ ids-present [] rising = refl
 ids-present (e ∷ s) rising =
     let later = ids-present s (rising_rest e s rising) in
     elim e.1 as (λ r. map (λ p. p.0) (set_at (present s) e.0 r) ≡ cond (is_some r) (e.0 ∷ full_ids s) (full_ids s)) [
-      | None ↦ ap (map (λ p. p.0)) (sym (present-without_key s e.0) ∙ present-empty s e.0 (ap held (none_later e s rising))) ∙ later
+      | None ↦ ap (map (λ p. p.0)) (sym (present-without_key s e.0) ∙ present-empty s e.0 (ap slot_record (none_later e s rising))) ∙ later
       | Some d ↦ ap (map (λ p. p.0)) (put_below e.0 (present s) d (below-present e.0 s (first _ _ rising))) ∙ ap (λ rest. e.0 ∷ rest) later
     ]

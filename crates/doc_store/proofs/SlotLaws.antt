@@ -5,36 +5,36 @@ use Rattle.rooms_val.specs.Data.{Data, map, members_of, IsSound, IsSoundRecord}
 use Rattle.rooms_val.specs.Maps.{value_at, AreRising, with_key, without_key, set_at, ties}
 use Rattle.rooms_val.proofs.DataLemmas.{sound-set_at, sound-where_key}
 use Rattle.rooms_val.proofs.MapsLemmas.{by_tie, order_itself, at-set_at, at-with_key, at-without_key, rising-set_at, rising-with_key, rising-without_key, same_pairs}
-use Rattle.doc_store.specs.Slots.{Slots, held, present, AreSound}
+use Rattle.doc_store.specs.Slots.{Slots, slot_record, present, AreSound}
 
-pub get-present : (s : Slots) (q : List ℕ) → value_at (present s) q ≡ held (value_at s q)
+pub get-present : (s : Slots) (q : List ℕ) → value_at (present s) q ≡ slot_record (value_at s q)
 get-present [] q = refl
-get-present (e ∷ s) q = at-set_at (present s) e.0 q e.1 ∙ elim (ties q e.0) as (λ t. cond t e.1 (value_at (present s) q) ≡ held (cond t (Some e.1) (value_at s q))) [ true ↦ refl | false ↦ get-present s q ]
+get-present (e ∷ s) q = at-set_at (present s) e.0 q e.1 ∙ elim (ties q e.0) as (λ t. cond t e.1 (value_at (present s) q) ≡ slot_record (cond t (Some e.1) (value_at s q))) [ true ↦ refl | false ↦ get-present s q ]
 
 pub rising-present : (s : Slots) → AreRising (present s)
 rising-present [] = tt
 rising-present (e ∷ s) = rising-set_at (present s) e.0 e.1 (rising-present s)
 
-held_some : (t : Bool) (r : Option Data) (o : Option (Option Data)) → held (cond t (Some r) o) ≡ cond t r (held o)
+held_some : (t : Bool) (r : Option Data) (o : Option (Option Data)) → slot_record (cond t (Some r) o) ≡ cond t r (slot_record o)
 held_some true r o = refl
 held_some false r o = refl
 
-held_none : (t : Bool) (o : Option (Option Data)) → held (cond t None o) ≡ cond t None (held o)
+held_none : (t : Bool) (o : Option (Option Data)) → slot_record (cond t None o) ≡ cond t None (slot_record o)
 held_none true o = refl
 held_none false o = refl
 
 -- a slot set is its record set
 pub present-with_key : (s : Slots) (id : List ℕ) (r : Option Data) → present (with_key s id r) ≡ set_at (present s) id r
 present-with_key s id r = same_pairs _ _ (rising-present (with_key s id r)) (rising-set_at (present s) id r (rising-present s)) (λ q.
-    get-present (with_key s id r) q ∙ ap held (at-with_key s id q r) ∙ held_some (ties q id) r (value_at s q) ∙ ap (cond (ties q id) r) (sym (get-present s q)) ∙ sym (at-set_at (present s) id q r))
+    get-present (with_key s id r) q ∙ ap slot_record (at-with_key s id q r) ∙ held_some (ties q id) r (value_at s q) ∙ ap (cond (ties q id) r) (sym (get-present s q)) ∙ sym (at-set_at (present s) id q r))
 
 -- a slot taken away is its record taken away
 pub present-without_key : (s : Slots) (id : List ℕ) → present (without_key s id) ≡ without_key (present s) id
 present-without_key s id = same_pairs _ _ (rising-present (without_key s id)) (rising-without_key (present s) id (rising-present s)) (λ q.
-    get-present (without_key s id) q ∙ ap held (at-without_key s id q) ∙ held_none (ties q id) (value_at s q) ∙ ap (cond (ties q id) None) (sym (get-present s q)) ∙ sym (at-without_key (present s) id q))
+    get-present (without_key s id) q ∙ ap slot_record (at-without_key s id q) ∙ held_none (ties q id) (value_at s q) ∙ ap (cond (ties q id) None) (sym (get-present s q)) ∙ sym (at-without_key (present s) id q))
 
 -- a slot without a record can go
-pub present-empty : (s : Slots) (id : List ℕ) → held (value_at s id) ≡ None → present (without_key s id) ≡ present s
+pub present-empty : (s : Slots) (id : List ℕ) → slot_record (value_at s id) ≡ None → present (without_key s id) ≡ present s
 present-empty s id none = present-without_key s id ∙ same_pairs _ _ (rising-without_key (present s) id (rising-present s)) (rising-present s) (λ q.
     at-without_key (present s) id q ∙ by_tie (λ t. cond t None (value_at (present s) q) ≡ value_at (present s) q) q id (λ same. sym (ap (value_at (present s)) same ∙ get-present s id ∙ none)) refl)
 

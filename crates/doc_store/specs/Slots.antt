@@ -9,9 +9,9 @@ abbrev pub Slots : Type 0
 Slots = List (List ℕ × Option Data)
 
 -- the record in a slot, where there is a slot and it holds one
-abbrev pub held : Option (Option Data) → Option Data
-held None = None
-held (Some r) = r
+abbrev pub slot_record : Option (Option Data) → Option Data
+slot_record None = None
+slot_record (Some r) = r
 
 -- the records in slots
 abbrev pub present : Slots → Pairs

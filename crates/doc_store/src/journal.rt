@@ -185,10 +185,10 @@ fn put_back(slots: &mut Slots, id: String, before: Option<Slot>)
 
 // The record in a slot.
 fn record_in(slot: Option<Slot>) -> Option<Val>
-    ensures { maybe_data result ≡ slots_spec.held (option_map maybe_data slot) }
+    ensures { maybe_data result ≡ slots_spec.slot_record (option_map maybe_data slot) }
 {
     match slot {
-        Some(held) => held,
+        Some(stored) => stored,
         None => None,
     }
 }

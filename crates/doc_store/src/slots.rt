@@ -34,7 +34,7 @@ impl Model for Slots {
 }
 
 impl Slots {
-    ghost use Rattle.doc_store.specs.Slots.{held, present, AreSound};
+    ghost use Rattle.doc_store.specs.Slots.{slot_record, present, AreSound};
 
     /// No slot.
     pub(crate) fn new(alloc: Global) -> Slots
@@ -47,7 +47,8 @@ impl Slots {
 
     /// The record in the slot of an id. `None` exactly where there is none.
     pub(crate) fn get(&self, id: &str) -> Option<&Val>
-        ensures found { option_map (λ v. data_of v.now) result ≡ held (value_at self.now id.now) }
+        ensures found { option_map (λ v. data_of v.now) result
+            ≡ slot_record (value_at self.now id.now) }
         ensures sound { AreSound self.now }
     {
         match self.tree.get(id) {

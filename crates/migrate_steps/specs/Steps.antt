@@ -54,12 +54,12 @@ replaced pairs (list ds) = list ds
 replaced pairs (map ms) = map ms
 
 -- the number nearest to a number within the greatest whole number on either side
-abbrev pub held : ℤ → ℤ
-held z = int_max (neg_ℤ GREATEST_WHOLE) (int_min z GREATEST_WHOLE)
+abbrev pub clamped : ℤ → ℤ
+clamped z = int_max (neg_ℤ GREATEST_WHOLE) (int_min z GREATEST_WHOLE)
 
--- a number is multiplied and held, and another value stays
+-- a number is multiplied and clamped, and another value stays
 abbrev pub scaled : ℕ → Data → Data
-scaled factor (whole z) = whole (held (z *ℤ pos factor))
+scaled factor (whole z) = whole (clamped (z *ℤ pos factor))
 scaled factor null = null
 scaled factor (boolean b) = boolean b
 scaled factor (text s) = text s

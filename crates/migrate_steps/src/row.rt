@@ -3,7 +3,7 @@ ghost use Rattle.std.specs.Prelude.{◌≡◌, ◌≤◌, IfOk, OnOk, IsTrue};
 ghost use Rattle.std.specs.Option.{option_map_or};
 ghost use Rattle.rooms_val.specs.View.{data_of};
 ghost use Rattle.std.specs.Prelude.{pos, ◌*ℤ◌};
-ghost use Rattle.migrate_steps.specs.Steps.{held, at_path, row, added, changed_at, renamed, moved, moved_one, nested, unnested, replacement, toward, replaced, scaled, divided, can_scale};
+ghost use Rattle.migrate_steps.specs.Steps.{clamped, at_path, row, added, changed_at, renamed, moved, moved_one, nested, unnested, replacement, toward, replaced, scaled, divided, can_scale};
 
 use crate::step::{MigStep, Way};
 use rooms_val::limits::GREATEST_WHOLE;
@@ -189,9 +189,9 @@ fn divided_val(val: Val, factor: u32) -> Val
     }
 }
 
-// A number times a factor, held within the whole numbers that every reader of JSON takes exactly.
+// A number times a factor, clamped within the whole numbers that every reader of JSON takes exactly.
 fn product(number: i64, factor: u32) -> i64
-    ensures { result ≡ held (number *ℤ pos factor) }
+    ensures { result ≡ clamped (number *ℤ pos factor) }
 {
     number
         .saturating_mul(i64::from(factor))

@@ -29,7 +29,7 @@ pub enum MigStep {
         key: Text,
         pairs: Vec<(Text, Text)>,
     },
-    /// Up: a number under the key is multiplied by the factor, and held within 2^53 - 1 on either side. Down: it is
+    /// Up: a number under the key is multiplied by the factor, and clamped to 2^53 - 1 on either side. Down: it is
     /// divided by the factor, and rounded down. The factor is at least 2.
     Scale {
         path: Vec<Text>,

@@ -9,7 +9,7 @@ use Rattle.rooms_val.specs.declared.val.Val.{Val}
 use Rattle.rooms_val.proofs.DataLemmas.{sound-set_at}
 use Rattle.rooms_val.proofs.MapsLemmas.{order_itself, ties_same, by_tie, same_pairs, at-seen, at-with_key, at-set_at, rising-with_key, rising-set_at, with_key-known}
 use Rattle.field_ops.specs.View.{maybe_data}
-use Rattle.doc_store.specs.Slots.{held}
+use Rattle.doc_store.specs.Slots.{slot_record}
 use Rattle.doc_store.proofs.SlotLaws.{get-present, rising-present}
 use Rattle.tl_rules.specs.Answers.{record_in}
 use Rattle.tl_rules.specs.Atoms.{ArePlainAtoms}
@@ -40,19 +40,19 @@ record_kept (Some v) =
     let back : Some (data_of (val_of (data_of v))) ≡ Some (data_of v) = record_back (Some (data_of v)) in
     ap Some (val_from_data (val_of (data_of v)) v (cc))
 
-pub at-records : (keys : Keys) (a : TlKey → TlValue) (q : List ℕ) → value_at (records_under keys a) q ≡ held (option_map (λ k. record_in (a k)) (value_at keys q))
-at-records keys a q = get-present (seen (λ k. record_in (a k)) keys) q ∙ ap held (at-seen (λ k. record_in (a k)) keys q)
+pub at-records : (keys : Keys) (a : TlKey → TlValue) (q : List ℕ) → value_at (records_under keys a) q ≡ slot_record (option_map (λ k. record_in (a k)) (value_at keys q))
+at-records keys a q = get-present (seen (λ k. record_in (a k)) keys) q ∙ ap slot_record (at-seen (λ k. record_in (a k)) keys q)
 
 pub rising-records : (keys : Keys) (a : TlKey → TlValue) → AreRising (records_under keys a)
 rising-records keys a = rising-present (seen (λ k. record_in (a k)) keys)
 
 pub at_no_key : (keys : Keys) (a : TlKey → TlValue) (q : List ℕ) → value_at keys q ≡ None → value_at (records_under keys a) q ≡ None
-at_no_key keys a q is = at-records keys a q ∙ ap (λ o. held (option_map (λ k. record_in (a k)) o)) is
+at_no_key keys a q is = at-records keys a q ∙ ap (λ o. slot_record (option_map (λ k. record_in (a k)) o)) is
 
 pub at_known : (keys : Keys) (a : TlKey → TlValue) (q : List ℕ) → value_at keys q ≡ Some (key.Rec q) → value_at (records_under keys a) q ≡ record_in (a (key.Rec q))
-at_known keys a q known = at-records keys a q ∙ ap (λ o. held (option_map (λ k. record_in (a k)) o)) known
+at_known keys a q known = at-records keys a q ∙ ap (λ o. slot_record (option_map (λ k. record_in (a k)) o)) known
 
-held_same : (o : Option TlKey) (a b : TlKey → TlValue) → ((k : TlKey) → o ≡ Some k → a k ≡ b k) → held (option_map (λ k. record_in (a k)) o) ≡ held (option_map (λ k. record_in (b k)) o)
+held_same : (o : Option TlKey) (a b : TlKey → TlValue) → ((k : TlKey) → o ≡ Some k → a k ≡ b k) → slot_record (option_map (λ k. record_in (a k)) o) ≡ slot_record (option_map (λ k. record_in (b k)) o)
 held_same None a b same = refl
 held_same (Some k) a b same = ap record_in (same k refl)
 
@@ -62,7 +62,7 @@ module _ (keys : Keys) (are : AreKeys keys) where
   at_key a b q same k is = subst (λ x. a x ≡ b x) (sym (are.of_records q k is)) same
 
   pub at_itself : (a : TlKey → TlValue) (q : List ℕ) (k : TlKey) → value_at keys q ≡ Some k → value_at (records_under keys a) q ≡ record_in (a k)
-  at_itself a q k is = at-records keys a q ∙ ap (λ o. held (option_map (λ x. record_in (a x)) o)) is
+  at_itself a q k is = at-records keys a q ∙ ap (λ o. slot_record (option_map (λ x. record_in (a x)) o)) is
 
   -- atoms that agree on records have the same records
   pub same_records : (a b : TlKey → TlValue) → ((q : List ℕ) → a (key.Rec q) ≡ b (key.Rec q)) → records_under keys a ≡ records_under keys b
@@ -101,8 +101,8 @@ pub records_added : (keys : Keys) (a : TlKey → TlValue) (id : List ℕ) → Is
 records_added keys a id board =
     same_pairs _ _ (rising-records (with_key keys id (key.Rec id)) a) (rising-records keys a) (λ q.
     at-records (with_key keys id (key.Rec id)) a q
-    ∙ ap (λ o. held (option_map (λ k. record_in (a k)) o)) (at-with_key keys id q (key.Rec id))
-    ∙ by_tie (λ t. held (option_map (λ k. record_in (a k)) (cond t (Some (key.Rec id)) (value_at keys q))) ≡ value_at (records_under keys a) q) q id
+    ∙ ap (λ o. slot_record (option_map (λ k. record_in (a k)) o)) (at-with_key keys id q (key.Rec id))
+    ∙ by_tie (λ t. slot_record (option_map (λ k. record_in (a k)) (cond t (Some (key.Rec id)) (value_at keys q))) ≡ value_at (records_under keys a) q) q id
     (λ same. ap record_in (board.plain.record_at id) ∙ record_back (value_at (records_under keys a) id) ∙ ap (value_at (records_under keys a)) (sym same))
     (sym (at-records keys a q)))
 

@@ -10,7 +10,7 @@ use Rattle.rooms_val.proofs.MapsLemmas.{ties_same, by_tie, none_later, rising_re
 use Rattle.room_model.specs.Schemas.{records_with}
 use Rattle.rooms_val.proofs.Truths.{and_left, and_right}
 use Rattle.room_model.proofs.LookUpLemmas.{at-filter, rising-filter}
-use Rattle.room_accept.specs.Measures.{held, weight_of}
+use Rattle.room_accept.specs.Measures.{count_of, weight_of}
 use Rattle.room_accept.specs.Sizes.{size_of, size_after, is_within}
 use Rattle.room_accept.specs.declared.size.DocumentSize.{DocumentSize}
 
@@ -86,7 +86,7 @@ records-set_at test m id o rising passes =
 pub records_at : (test : List ℕ → Bool) (m : Pairs) (id : List ℕ) → test id ≡ true → value_at (records_with test m) id ≡ value_at m id
 records_at test m id passes = at-filter test m id ∙ ap (λ b. cond b (value_at m id) None) passes
 
-held_adds : (o : Option Data) → held o ≡ adds (λ d. 1) o
+held_adds : (o : Option Data) → count_of o ≡ adds (λ d. 1) o
 held_adds None = refl
 held_adds (Some d) = refl
 
@@ -108,21 +108,21 @@ module _ (test : List ℕ → Bool) (m : Pairs) (id : List ℕ) (o : Option Data
     weight = (after_total weight (λ es. sum (map (λ p. weight p.1) es)) weight_total ∙ (λ j. (sum (map (λ p. weight p.1) (records_with test m)) - sym (weight_adds (value_at m id)) j) + sym (weight_adds o) j)) i;
   }
 
--- a number that is held at the greatest is within a limit as it is itself
+-- a number that is clamped at the greatest is within a limit as it is itself
 within_held : (n most : ℕ) → most ≤ 2 ^ 64 - 2 → nat_le (min n (2 ^ 64 - 1)) most ≡ nat_le n most
 within_held n most low = grind (arith, nat_tests)
 
--- so is a size whose numbers are held
-pub within_same : (size held : DocumentSize) → held.count ≡ min size.count (2 ^ 64 - 1) → held.weight ≡ min size.weight (2 ^ 64 - 1) → is_within held ≡ is_within size
-within_same size held count weight =
+-- so is a size whose numbers are clamped
+pub within_same : (size clamped : DocumentSize) → clamped.count ≡ min size.count (2 ^ 64 - 1) → clamped.weight ≡ min size.weight (2 ^ 64 - 1) → is_within clamped ≡ is_within size
+within_same size clamped count weight =
     (λ i. nat_le (count i) 16384 && nat_le (weight i) 2097152) ∙ (λ i. within_held size.count 16384 (omega arith) i && within_held size.weight 2097152 (omega arith) i)
 
 exact : (n h most : ℕ) → h ≡ min n (2 ^ 64 - 1) → most ≤ 2 ^ 64 - 2 → nat_le h most ≡ true → h ≡ n
 exact n h most is low within = grind (arith, nat_tests)
 
--- and a held size within the limits is the size itself
-pub exact_within : (size held : DocumentSize) → held.count ≡ min size.count (2 ^ 64 - 1) → held.weight ≡ min size.weight (2 ^ 64 - 1) → is_within held ≡ true → held ≡ size
-exact_within size held count weight within =
-    let few : held.count ≡ size.count = exact size.count held.count 16384 count (omega arith) (and_left _ _ within) in
-    let light : held.weight ≡ size.weight = exact size.weight held.weight 2097152 weight (omega arith) (and_right _ _ within) in
+-- and a clamped size within the limits is the size itself
+pub exact_within : (size clamped : DocumentSize) → clamped.count ≡ min size.count (2 ^ 64 - 1) → clamped.weight ≡ min size.weight (2 ^ 64 - 1) → is_within clamped ≡ true → clamped ≡ size
+exact_within size clamped count weight within =
+    let few : clamped.count ≡ size.count = exact size.count clamped.count 16384 count (omega arith) (and_left _ _ within) in
+    let light : clamped.weight ≡ size.weight = exact size.weight clamped.weight 2097152 weight (omega arith) (and_right _ _ within) in
     λ i. record { count = few i; weight = light i }

@@ -4,9 +4,9 @@ use Rattle.rooms_val.specs.Data.{Data}
 use Rattle.rooms_val.specs.Weight.{weight}
 
 -- to the number of records
-abbrev pub held : Option Data → ℕ
-held None = 0
-held (Some d) = 1
+abbrev pub count_of : Option Data → ℕ
+count_of None = 0
+count_of (Some d) = 1
 
 -- to their weight
 abbrev pub weight_of : Option Data → ℕ

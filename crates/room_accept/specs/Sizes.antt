@@ -4,7 +4,7 @@ use Rattle.rooms_val.specs.Data.{Data, Pairs}
 use Rattle.rooms_val.specs.Weight.{weight}
 use Rattle.room_model.specs.Schemas.{records_with}
 use Rattle.room_model.specs.declared.limits.TheConstants.{MOST_RECORDS, MOST_WEIGHT}
-use Rattle.room_accept.specs.Measures.{held, weight_of}
+use Rattle.room_accept.specs.Measures.{count_of, weight_of}
 use Rattle.room_accept.specs.declared.size.DocumentSize.{DocumentSize}
 
 -- how many of the records are the document's, by a test on ids, and what those weigh together
@@ -13,7 +13,7 @@ size_of is_document m = let document = records_with is_document m in record { co
 
 -- the size after one of the records, or the lack of one, becomes another
 abbrev pub size_after : DocumentSize → Option Data → Option Data → DocumentSize
-size_after size before after = record { count = (size.count - held before) + held after; weight = (size.weight - weight_of before) + weight_of after }
+size_after size before after = record { count = (size.count - count_of before) + count_of after; weight = (size.weight - weight_of before) + weight_of after }
 
 -- a document of this size is within the limits
 abbrev pub is_within : DocumentSize → Bool

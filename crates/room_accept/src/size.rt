@@ -2,7 +2,7 @@
 ghost use Rattle.std.specs.Prelude.{◌≡◌, ◌^◌, ◌-◌, min};
 ghost use Rattle.std.specs.Option.{option_copied};
 ghost use Rattle.field_ops.specs.View.{maybe_data};
-ghost use Rattle.room_accept.specs.Measures.{held, weight_of};
+ghost use Rattle.room_accept.specs.Measures.{count_of, weight_of};
 
 use room_model::limits::{MOST_RECORDS, MOST_WEIGHT};
 use rooms_val::Val;
@@ -50,7 +50,7 @@ impl DocumentSize {
 
 // How many records there are where one may be.
 fn count_of(found: Option<&Val>) -> u64
-    ensures { result ≡ held (maybe_data (option_copied found.entry)) }
+    ensures { result ≡ count_of (maybe_data (option_copied found.entry)) }
 {
     match found {
         Some(_) => 1,

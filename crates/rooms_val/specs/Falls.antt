@@ -10,7 +10,7 @@ use Rattle.std.specs.Prelude.{Option, None, Some}
 use Rattle.std.specs.declared.alloc.Global.{Global}
 use Rattle.std.specs.declared.sync.Arc.{Arc}
 use Rattle.std.specs.declared.vec.Vec.{Vec}
-use Rattle.rooms_val.specs.Shared.{held}
+use Rattle.rooms_val.specs.Shared.{shared_items}
 use Rattle.rooms_val.specs.declared.fields.Fields.TheDeep.{deep-Val, deep-Fields, deep-Vals}
 use Rattle.rooms_val.specs.declared.fields.Fields.TheShapes.{weighed-Fields-entries-at-2 as weighed_entry}
 
@@ -31,10 +31,10 @@ pub pairs_fall : (es : List (List ℕ × Val)) → max (most (λ e. weighed_entr
 pairs_fall [] = omega arith
 pairs_fall (e ∷ es) = omega (arith, deep_le-depth e.1, pairs_fall es)
 
-pub vals_fall : (heap : Global) (o : Option (Arc (Vec Val Global) Global)) → deep-Vals (record { alloc = heap; items = o }) ≤ suc (items_depth (items_of (items_view (held o))))
+pub vals_fall : (heap : Global) (o : Option (Arc (Vec Val Global) Global)) → deep-Vals (record { alloc = heap; items = o }) ≤ suc (items_depth (items_of (items_view (shared_items o))))
 vals_fall heap None = omega arith
 vals_fall heap (Some a) = omega (arith, items_fall a.value.items)
 
-pub fields_fall : (heap : Global) (o : Option (Arc (Vec (List ℕ × Val) Global) Global)) → deep-Fields (record { alloc = heap; entries = o }) ≤ suc (members_depth (members_of (pairs_view (held o))))
+pub fields_fall : (heap : Global) (o : Option (Arc (Vec (List ℕ × Val) Global) Global)) → deep-Fields (record { alloc = heap; entries = o }) ≤ suc (members_depth (members_of (pairs_view (shared_items o))))
 fields_fall heap None = omega arith
 fields_fall heap (Some a) = omega (arith, pairs_fall a.value.items)

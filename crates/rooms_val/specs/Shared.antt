@@ -12,6 +12,6 @@ text_bytes (Here short) = short
 text_bytes (There shared) = arc_str_bytes shared
 
 -- the items that are shared, and none where there is nothing
-abbrev pub held : {X Y Z : Type 0} → Option (Arc (Vec X Y) Z) → List X
-held None = []
-held (Some shared) = shared.value.items
+abbrev pub shared_items : {X Y Z : Type 0} → Option (Arc (Vec X Y) Z) → List X
+shared_items None = []
+shared_items (Some shared) = shared.value.items

@@ -34,12 +34,12 @@ impl Model for Fields {
 
     ghost coded = { coded_pairs };
 
-    ghost use Rattle.rooms_val.specs.Shared.{held};
+    ghost use Rattle.rooms_val.specs.Shared.{shared_items};
     ghost use Rattle.rooms_val.specs.View.{pairs_view};
 
-    ghost view = { λ f. pairs_view (held f.entries) };
+    ghost view = { λ f. pairs_view (shared_items f.entries) };
 
-    ghost invariant = { λ f. IsSound (map (members_of (pairs_view (held f.entries)))) };
+    ghost invariant = { λ f. IsSound (map (members_of (pairs_view (shared_items f.entries)))) };
 
     ghost size = { λ ps. suc (members_depth (members_of ps)) };
 

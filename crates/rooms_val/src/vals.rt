@@ -30,12 +30,12 @@ impl Model for Vals {
 
     ghost coded = { coded_items };
 
-    ghost use Rattle.rooms_val.specs.Shared.{held};
+    ghost use Rattle.rooms_val.specs.Shared.{shared_items};
     ghost use Rattle.rooms_val.specs.View.{items_view};
 
-    ghost view = { λ v. items_view (held v.items) };
+    ghost view = { λ v. items_view (shared_items v.items) };
 
-    ghost invariant = { λ v. AreSoundItems (items_of (items_view (held v.items))) };
+    ghost invariant = { λ v. AreSoundItems (items_of (items_view (shared_items v.items))) };
 
     ghost size = { λ ds. suc (items_depth (items_of ds)) };
 

@@ -126,14 +126,14 @@ pub struct Ids {
 
 impl Model for Ids {
     ghost use Rattle.std.specs.Prelude.{◌≡◌, List, ℕ, length};
-    ghost use Rattle.rooms_val.specs.Shared.{held};
+    ghost use Rattle.rooms_val.specs.Shared.{shared_items};
     ghost use Rattle.tl_rules.specs.Ids.{flat};
 
     ghost Value = { List (List ℕ) };
 
-    ghost view = { λ ids. flat (held ids.parts) };
+    ghost view = { λ ids. flat (shared_items ids.parts) };
 
-    ghost invariant = { λ ids. ids.len ≡ length (flat (held ids.parts)) };
+    ghost invariant = { λ ids. ids.len ≡ length (flat (shared_items ids.parts)) };
 }
 
 impl PartialEq for Ids {

@@ -1,5 +1,5 @@
 //! A world whose clients watch views, which plays a recording event by event.
-ghost use Rattle.std.specs.Prelude.{◌≡◌, ◌≢◌, [], ℕ, List, true, IfOk, OnOk, Ok, Err};
+ghost use Rattle.std.specs.Prelude.{◌≡◌, [], ℕ, List, true, IfOk, OnOk, Ok, Err};
 ghost use Rattle.rooms_val.specs.Data.{Pairs};
 ghost use Rattle.room_model.specs.Schemas.{WorldSchemas};
 ghost use Rattle.room_model.specs.Rooms.{Room};
@@ -184,7 +184,7 @@ impl ViewedWorld {
         ensures steps { IfOk result (λ answer. (schemas : WorldSchemas EditFault) (viewed : Viewed)
             → Stands schemas viewed self.old
             → StepsTo schemas viewed (on_watch schemas client view.now viewed) answer self.new) }
-        ensures spends { result ≢ Ok (Err StepFault.OutOfMemory) }
+        ensures spends { result ≡ Ok (Err StepFault.OutOfMemory) → self.new.world.spent ≡ true }
     {
         if !self.world.has_client(client) {
             return Ok(Err(StepFault::NoSuchClient));
@@ -203,7 +203,7 @@ impl ViewedWorld {
             → Stands schemas viewed self.now
             → StepsTo schemas viewed (on_query schemas client type_name.now query.now viewed) answer
             self.now) }
-        ensures spends { result ≢ Ok (Err StepFault.OutOfMemory) }
+        ensures spends { result ≡ Ok (Err StepFault.OutOfMemory) → self.now.world.spent ≡ true }
     {
         if !self.world.has_client(client) {
             return Ok(Err(StepFault::NoSuchClient));

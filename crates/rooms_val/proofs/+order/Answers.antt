@@ -3,7 +3,7 @@ use Rattle.std.specs.Ordering.{nat_cmp, ordering_then}
 use Rattle.rooms_val.specs.Data.{items_of, members_of}
 use Rattle.rooms_val.specs.Maps.{order}
 use Rattle.rooms_val.specs.Order.{data_cmp, items_cmp, members_cmp}
-use Rattle.rooms_val.specs.Shared.{held}
+use Rattle.rooms_val.specs.Shared.{shared_items}
 use Rattle.rooms_val.specs.View.{data_of, items_view, pairs_view}
 use Rattle.rooms_val.proofs.OrderLemmas.{decided, no_items_before, no_members_before, items_left, items_more, items_longer, items_shorter, members_left, members_more, members_longer, members_shorter}
 use Rattle.rooms_val.proofs.+order.Goals as goal
@@ -73,10 +73,10 @@ fields::Fields::compare-returns-then-place-len t c =
 
 pub vals::Vals::compare-returns-in_default : goal.vals::Vals::compare-returns-in_default
 vals::Vals::compare-returns-in_default t c =
-    let none = sym c.self.view_is ∙ ap (λ o. items_view (held o)) c.in_default.is in
+    let none = sym c.self.view_is ∙ ap (λ o. items_view (shared_items o)) c.in_default.is in
     c.cmp.ensures ∙ ap (nat_cmp 0) c.len.ensures.count ∙ no_items_before c.args.other.now ∙ ap (λ ds. items_cmp (items_of ds) (items_of c.args.other.now)) (sym none)
 
 pub fields::Fields::compare-returns-in_default : goal.fields::Fields::compare-returns-in_default
 fields::Fields::compare-returns-in_default t c =
-    let none = sym c.self.view_is ∙ ap (λ o. pairs_view (held o)) c.in_default.is in
+    let none = sym c.self.view_is ∙ ap (λ o. pairs_view (shared_items o)) c.in_default.is in
     c.cmp.ensures ∙ ap (nat_cmp 0) c.len.ensures.count ∙ no_members_before c.args.other.now ∙ ap (λ ps. members_cmp (members_of ps) (members_of c.args.other.now)) (sym none)

@@ -1,7 +1,7 @@
 use Rattle.std.proofs.Common.{◌≡◌, ap, sym, subst, ◌∙◌}
 use Rattle.rooms_val.specs.Maps.{value_at, set_at, with_key}
 use Rattle.field_ops.specs.View.{maybe_data}
-use Rattle.doc_store.specs.Slots.{held, present}
+use Rattle.doc_store.specs.Slots.{slot_record, present}
 use Rattle.doc_store.specs.Journal.{wrote, begun, IsUndoable, slots_before, notes_of}
 use Rattle.doc_store.proofs.SlotLaws.{get-present, present-with_key}
 use Rattle.doc_store.proofs.Journals.{noted, begun-write, begun-unwritten, before-write, before-unwritten, undoable-write, undoable-unwritten}
@@ -20,7 +20,7 @@ returns-in_err-old-clause-begun c =
 
 pub returns-clause-old : goal.returns-clause-old
 returns-clause-old c =
-    c.record_in.ensures ∙ ap held (c.in_ok-old.ensures.old ∙ ap (value_at c.args.slots.now) c.in_ok-key.ensures.ok) ∙ sym (get-present c.args.slots.now c.args.id.now)
+    c.record_in.ensures ∙ ap slot_record (c.in_ok-old.ensures.old ∙ ap (value_at c.args.slots.now) c.in_ok-key.ensures.ok) ∙ sym (get-present c.args.slots.now c.args.id.now)
 
 pub returns-clause-ok : goal.returns-clause-ok
 returns-clause-ok c =
