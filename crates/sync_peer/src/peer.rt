@@ -131,7 +131,8 @@ impl Peer {
     /// Where memory is refused the peer is as before.
     pub fn undo<L: Ledger>(&mut self, alloc: Global, steps: &mut Steps<L>) -> Mem<bool>
         ensures answer { IfOk result (λ done. (schemas : WorldSchemas EditFault)
-            (state : ClientState) → Stands schemas state self.old → done ≡ is_some (undo_diff state.client.marks)) }
+            (state : ClientState) → Stands schemas state self.old
+            → done ≡ is_some (undo_diff state.client.marks)) }
         ensures ok { OnOk result ((schemas : WorldSchemas EditFault) (state : ClientState)
             → Stands schemas state self.old → Stands schemas (undone schemas state) self.new) }
         ensures err { OnErr result ((schemas : WorldSchemas EditFault) (state : ClientState)
@@ -151,7 +152,8 @@ impl Peer {
     /// peer is as before.
     pub fn redo<L: Ledger>(&mut self, alloc: Global, steps: &mut Steps<L>) -> Mem<bool>
         ensures answer { IfOk result (λ done. (schemas : WorldSchemas EditFault)
-            (state : ClientState) → Stands schemas state self.old → done ≡ is_some (redo_diff state.client.marks)) }
+            (state : ClientState) → Stands schemas state self.old
+            → done ≡ is_some (redo_diff state.client.marks)) }
         ensures ok { OnOk result ((schemas : WorldSchemas EditFault) (state : ClientState)
             → Stands schemas state self.old → Stands schemas (redone schemas state) self.new) }
         ensures err { OnErr result ((schemas : WorldSchemas EditFault) (state : ClientState)
@@ -414,7 +416,8 @@ impl Peer {
             → Stand (watched self.old) ws
             → by_number told.items ≡ news (shown schemas state) ws) }
         ensures ok { OnOk result ((schemas : WorldSchemas EditFault) (state : ClientState)
-            (ws : Watches) → Stands schemas state self.old → IsClosed self.old → Stand (watched self.old) ws
+            (ws : Watches) → Stands schemas state self.old → IsClosed self.old
+            → Stand (watched self.old) ws
             → Stand (watched self.new) (all_told (shown schemas state) ws)) }
         ensures err { OnErr result (watched self.new ≡ watched self.old) }
         ensures stands { (schemas : WorldSchemas EditFault) (state : ClientState)
