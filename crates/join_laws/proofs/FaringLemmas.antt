@@ -2,7 +2,6 @@
 use Rattle.std.proofs.Common.{◌≡◌, inl, inr, ℕ, zero, suc, nat_lt, ◌≤◌, ℤ, pos, negsuc, Bool, true, false, ◌&&◌, cond, List, [], ◌∷◌, ◌++◌, length, map, Option, Some, None, option_map, refl, sym, ap, subst, ◌∙◌, append-nil, append_assoc, arith}
 use Rattle.std.specs.Prelude.{fold, filter_map, find, is_none, decimal, int_lt, option_to_list}
 use Rattle.std.specs.Option.{option_map_or, option_or}
-use Rattle.std.proofs.lemmas.Bool.Decides.{Decides-eqb}
 use Rattle.std.proofs.lemmas.List.{map-append}
 use Rattle.std.proofs.lemmas.List.Elements.{filter_map-append}
 use Rattle.std.proofs.lemmas.List.Sums.{fold-append}
@@ -24,9 +23,10 @@ use Rattle.room_model.specs.declared.limits.TheConstants.{MOST_PUSHES}
 use Rattle.room_events.specs.Following.{IsPushOf, ArePushed, AreResultsOf, replica_given}
 use Rattle.room_events.specs.Told.{clock_of, told_by, EachNext, AllAt, GoOnFrom}
 use Rattle.sync_client.specs.Calls.{ClientState, asking, asks, opened, replica_of, after_message}
-use Rattle.sync_client.specs.Faults.{number_fault, clock_fault, event_fault, clock_after, events_fault, answer_fault, open_fault, take_fault}
+use Rattle.sync_client.specs.Faults.{clock_fault, event_fault, clock_after, events_fault, answer_fault, open_fault, take_fault}
 use Rattle.sync_client.specs.declared.fault.TakeFault.{TakeFault}
-use Rattle.sync_client.specs.declared.fault.TakeFault.TheVariants.{WrongRequest, NoPending, WrongPending, ClockBack}
+use Rattle.sync_client.specs.declared.fault.TakeFault.TheVariants.{WrongRequest, ClockBack}
+use Rattle.sync_client.proofs.FaultLemmas.{number-expected}
 use Rattle.sync_msgs.specs.declared.client_message.ClientMessage.{ClientMessage}
 use Rattle.sync_msgs.specs.declared.client_message.ClientMessage.TheVariants as say
 use Rattle.sync_msgs.specs.declared.data_event.Action.{Action}
@@ -404,11 +404,6 @@ pub go_on_not_below : (clock : ℕ) (events : List DataEvent) → GoOnFrom clock
 go_on_not_below clock events (inl next) = next_not_below clock events next
 go_on_not_below clock events (inr all) = let less = all.1 in same_not_below clock all.0 events (omega (arith, less)) all.2
 
-number_expected : (o : Option ℕ) (number : ℤ) → option_map pos o ≡ Some number → option_map_or (number_fault number) o (Some (NoPending number)) ≡ None
-number_expected None number is = absurd (cc)
-number_expected (Some n) number is =
-    subst (λ z. number_fault z n ≡ None) (same_Some (pos n) number is) (ap (λ (b : Bool). cond {A = Option TakeFault} b None (Some (WrongPending (pos n) (pos n)))) ((Decides-eqb n n).1 refl))
-
 pub events_expected : (events : List DataEvent) (left : List Pending) (works : List Work) (reached : ℤ) → AreResultsOf left events → AreNotBelow reached events → events_fault (left ++ all_unsent works) reached events ≡ None
 events_expected [] left works reached results rise = refl
 events_expected (Patch diff clock ∷ events) left works reached results rise =
@@ -416,7 +411,7 @@ events_expected (Patch diff clock ∷ events) left works reached results rise =
     ∙ events_expected events left works clock results rise.1
 events_expected (PushResult number clock action ∷ events) [] works reached results rise = absurd results
 events_expected (PushResult number clock action ∷ events) (item ∷ left) works reached results rise =
-    ap (λ (o : Option TakeFault). option_or (option_or o (clock_fault reached clock)) (events_fault (left ++ all_unsent works) clock events)) (number_expected item.sent_as number results.0)
+    ap (λ (o : Option TakeFault). option_or (option_or o (clock_fault reached clock)) (events_fault (left ++ all_unsent works) clock events)) (number-expected item.sent_as number results.0)
     ∙ ap (λ (b : Bool). option_or (cond {A = Option TakeFault} b (Some (ClockBack reached clock)) None) (events_fault (left ++ all_unsent works) clock events)) rise.0
     ∙ events_expected events left works clock results.1 rise.1
 

@@ -1,21 +1,30 @@
 -- What is wrong with events, one after the other.
-use Rattle.std.proofs.Common.{◌≡◌, ◌≤◌, ◌+◌, ◌-◌, ℕ, zero, suc, ℤ, List, [], ◌∷◌, ◌++◌, length, drop, zero-add, Option, Some, None, ap, ◌∙◌, arith}
+use Rattle.std.proofs.Common.{◌≡◌, ◌≤◌, ◌+◌, ◌-◌, ℕ, zero, suc, ℤ, pos, Bool, cond, List, [], ◌∷◌, ◌++◌, length, drop, zero-add, Option, Some, None, option_map, refl, ap, subst, ◌∙◌, arith}
 use Rattle.std.specs.Prelude.{sum_by}
 use Rattle.std.proofs.lemmas.List.Sums.{sum_by-append}
 use Rattle.std.proofs.lemmas.List.{drop-drop}
-use Rattle.std.specs.Option.{option_or}
+use Rattle.std.proofs.lemmas.Bool.Decides.{Decides-eqb}
+use Rattle.std.proofs.lemmas.Option.{same_Some}
+use Rattle.std.specs.Option.{option_map_or, option_or}
 use Rattle.sync_msgs.specs.declared.data_event.DataEvent.{DataEvent}
 use Rattle.sync_msgs.specs.declared.data_event.DataEvent.TheVariants.{Patch, PushResult}
 use Rattle.room_model.specs.Replicas.{Work, Pending}
 use Rattle.client_replica.specs.Works.{ended_by}
 use Rattle.sync_client.specs.declared.fault.TakeFault.{TakeFault}
+use Rattle.sync_client.specs.declared.fault.TakeFault.TheVariants.{NoPending, WrongPending}
 use Rattle.sync_client.specs.Numbers.{numbered, expected}
-use Rattle.sync_client.specs.Faults.{first_number, event_fault, events_fault, clock_of, pending_after}
+use Rattle.sync_client.specs.Faults.{first_number, number_fault, event_fault, events_fault, clock_of, pending_after}
 use Rattle.sync_client.proofs.NumberLemmas.{numbered-drop, number-numbered}
 
 left_after : (items : List Pending) (k : ℕ) (event : DataEvent) → pending_after (drop k items) event ≡ drop (k + ended_by event) items
 left_after items k (Patch diff clock) = ap (λ n. drop n items) (let it : k ≡ k + 0 = omega arith in it)
 left_after items k (PushResult number clock action) = drop-drop 1 k items
+
+-- the number that is expected is at no fault
+pub number-expected : (o : Option ℕ) (number : ℤ) → option_map pos o ≡ Some number → option_map_or (number_fault number) o (Some (NoPending number)) ≡ None
+number-expected None number is = absurd (cc)
+number-expected (Some n) number is =
+    subst (λ z. number_fault z n ≡ None) (same_Some (pos n) number is) (ap (λ (b : Bool). cond {A = Option TakeFault} b None (Some (WrongPending (pos n) (pos n)))) ((Decides-eqb n n).1 refl))
 
 -- an event without fault leaves the others
 pub fault-next : (items : List Pending) (k : ℕ) (reached : ℤ) (n : Option ℕ) (event : DataEvent) (events : List DataEvent) → first_number (drop k items) ≡ n → event_fault n reached event ≡ None

@@ -1,9 +1,8 @@
 -- A client takes what it expects, and comes by it to where the notice leads.
-use Rattle.std.proofs.Common.{◌≡◌, ℕ, ◌==◌, ℤ, pos, Bool, true, false, cond, List, [], ◌∷◌, Option, Some, None, option_map, refl, ap, subst, ◌∙◌, T}
+use Rattle.std.proofs.Common.{◌≡◌, ℕ, ℤ, pos, cond, List, [], ◌∷◌, Some, None, refl, ap, ◌∙◌}
 use Rattle.std.specs.Prelude.{decimal}
-use Rattle.std.specs.Option.{option_map_or, option_or}
+use Rattle.std.specs.Option.{option_or}
 use Rattle.std.specs.Str.{bytes_eq}
-use Rattle.std.proofs.Math.Dec.{eqb_refl}
 use Rattle.room_model.specs.Schemas.{WorldSchemas}
 use Rattle.room_model.specs.Histories.{History}
 use Rattle.room_model.specs.Rooms.{Room, Notice, snapshot_at, updates_between, pong, end}
@@ -15,25 +14,15 @@ use Rattle.sync_msgs.specs.declared.out.Out.TheVariants.{Message}
 use Rattle.sync_msgs.specs.declared.server_message.ServerMessage.{ServerMessage}
 use Rattle.sync_msgs.specs.declared.server_message.ServerMessage.TheVariants as message
 use Rattle.world_laws.specs.Told as told
-use Rattle.world_laws.specs.Told.{IsOfFirst, AreInOrder, IsExpected, IsTaken, replica_of}
+use Rattle.world_laws.specs.Told.{AreInOrder, IsExpected, IsTaken}
 use Rattle.world_laws.proofs.PushLemmas.{answered, snapshot_same}
 use Rattle.sync_client.specs.Calls.{opened, after_message}
-use Rattle.sync_client.specs.Faults.{clock_fault, number_fault, clock_after, events_fault, answer_fault, open_fault, take_fault}
-use Rattle.sync_client.specs.declared.fault.TakeFault.TheVariants.{WrongRequest, NoPending, WrongPending, ClockBack}
+use Rattle.sync_client.specs.Faults.{clock_fault, clock_after, events_fault, answer_fault, open_fault, take_fault}
+use Rattle.sync_client.specs.declared.fault.TakeFault.TheVariants.{WrongRequest, ClockBack}
+use Rattle.sync_client.proofs.FaultLemmas.{number-expected}
 use Rattle.sync_world.specs.States.{client_state}
 use Rattle.sync_world.proofs.WorldLemmas.{base_alike}
 use Rattle.rooms_val.proofs.Truths.{bytes_eq_itself}
-
-true_of : (b : Bool) → T b → b ≡ true
-true_of true h = refl
-true_of false h = absurd h
-
--- the result of the push that is expected has its number
-number_taken : (o : Option ℕ) (number : ℤ) → option_map pos o ≡ Some number → option_map_or (number_fault number) o (Some (NoPending number)) ≡ None
-number_taken None number is = absurd (cc)
-number_taken (Some n) number is =
-    let same : pos n ≡ number = cc in
-    subst (λ z. number_fault z n ≡ None) same (ap (λ b. cond b None (Some (WrongPending (pos n) (pos n)))) (true_of (n == n) (eqb_refl n)))
 
 -- events in order are at no fault
 in_order : (reached : ℤ) (items : List Pending) (events : List DataEvent) → AreInOrder reached items events → events_fault items reached events ≡ None
@@ -42,7 +31,7 @@ in_order reached items (Patch diff clock ∷ events) h =
     ap (λ b. option_or (cond b (Some (ClockBack reached clock)) None) (events_fault items clock events)) h.0 ∙ in_order clock items events h.1
 in_order reached [] (PushResult number clock action ∷ events) h = absurd h.0
 in_order reached (item ∷ items) (PushResult number clock action ∷ events) h =
-    ap (λ o. option_or (option_or o (clock_fault reached clock)) (events_fault items clock events)) (number_taken item.sent_as number h.0)
+    ap (λ o. option_or (option_or o (clock_fault reached clock)) (events_fault items clock events)) (number-expected item.sent_as number h.0)
     ∙ ap (λ b. option_or (cond b (Some (ClockBack reached clock)) None) (events_fault items clock events)) h.1
     ∙ in_order clock items events h.2
 
