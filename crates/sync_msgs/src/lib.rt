@@ -3,7 +3,8 @@
 //! A client asks to be connected, pushes its edits and its presence, and pings; the room answers with what the client
 //! lacks, tells what happened since, and ends a session for a reason. Contracts see each message as it is, with its texts
 //! as bytes, its diffs as `RecordOps` and its schema as names of sequences with versions; a presence in a push stands for
-//! an operation by `change_of`, and `Events` are a list. The crate stands on `rooms_val`, `field_ops` and `migrate_seq`.
+//! an operation by `change_of`, and `Events` are a list. The crate stands on `rooms_val`, `field_ops`, `migrate_steps` and
+//! `migrate_seq`.
 #![tactic(auto)]
 
 pub mod client_message;

@@ -3,7 +3,7 @@
 //! Contracts see messages as `sync_msgs` has them. What stands for what is said in the direction of
 //! printing: each message has one value, by `client_val` and `server_val`, and a text stands for a
 //! message where it is read as that value. The crate stands on `rooms_val`, `field_ops`,
-//! `migrate_seq` and `sync_msgs`, and on `thiserror` for the text of its faults.
+//! `migrate_steps`, `migrate_seq` and `sync_msgs`, and on `thiserror` for the text of its faults.
 #![tactic(auto)]
 
 mod client;
